@@ -1,0 +1,5 @@
+pub mod Bools
+pub mod Decided
+pub mod Firsts
+pub mod Lists
+pub mod Tables

@@ -1,0 +1,61 @@
+// The four counts that must not be taken for one another, and what the public calls answer. Numbers of refusals are document 01's; an acceptance has 0
+// in number, line and round, a refusal 0 in everything else.
+
+// A player's number in the event, 1 to 9999: what an entry names its opponent by.
+#[repr(C)]
+pub struct StartNumber(pub u32);
+
+// A player's place in the tables, from 0.
+#[repr(C)]
+pub struct Place(pub u32);
+
+// A player's rank, 1 to 9999.
+#[repr(C)]
+pub struct Rank(pub u32);
+
+// A line of the file, from 1; 0 where a refusal has no line.
+#[repr(C)]
+pub struct LineNumber(pub u32);
+
+// One 250 record: points in tenths for the start numbers and rounds from first to last.
+#[repr(C)]
+pub struct Acceleration {
+    pub points: u32,
+    pub first_round: u32,
+    pub last_round: u32,
+    pub first_start: u32,
+    pub last_start: u32,
+}
+
+// What a reading answers: the refusal, or the counts, the bytes of kept text, the initial colour (0 if none) and the values of W D L A P X in tenths.
+#[repr(C)]
+pub struct Answer {
+    pub number: u32,
+    pub line: LineNumber,
+    pub round: u32,
+    pub players: u32,
+    pub rounds: u32,
+    pub accelerations: u32,
+    pub text: usize,
+    pub colour: u8,
+    pub values: [u32; 6],
+}
+
+// What a writing answers: the refusal, or the bytes written.
+#[repr(C)]
+pub struct Written {
+    pub number: u32,
+    pub line: LineNumber,
+    pub round: u32,
+    pub length: usize,
+}
+
+// What a question answers: the refusal, or the sum earned in earlier rounds and the acceleration for the round, in tenths.
+#[repr(C)]
+pub struct Score {
+    pub number: u32,
+    pub line: LineNumber,
+    pub round: u32,
+    pub points: u32,
+    pub acceleration: u32,
+}
