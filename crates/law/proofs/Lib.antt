@@ -1,0 +1,3 @@
+pub mod Cut
+pub mod FieldsRead
+pub mod RecordsRead
