@@ -47,6 +47,10 @@ pub not-so : (b : Bool) → (b ≡ true → ⊥) → b ≡ false
 not-so true h = absurd (h refl)
 not-so false h = refl
 
+pub is-so : (b : Bool) → (b ≡ false → ⊥) → b ≡ true
+is-so true h = refl
+is-so false h = absurd (h refl)
+
 -- ---- texts
 pub same-is : (a b : List ℕ) → same a b ≡ true → a ≡ b
 same-is [] [] e = refl
@@ -87,3 +91,11 @@ any-append f (c ∷ a) b = go (f c) (any-append f a b)
     go : (v : Bool) → any f (a ++ b) ≡ any f a || any f b → v || any f (a ++ b) ≡ (v || any f a) || any f b
     go true e = refl
     go false e = e
+
+pub all-same : {A : Type 0} (f : A → Bool) (a b : List A) → all f (a ++ b) ≡ all f a && all f b
+all-same f [] b = refl
+all-same f (c ∷ a) b = go (f c) (all-same f a b)
+  where
+    go : (v : Bool) → all f (a ++ b) ≡ all f a && all f b → v && all f (a ++ b) ≡ (v && all f a) && all f b
+    go true e = e
+    go false e = refl

@@ -1,6 +1,6 @@
 -- Laws on runs of numbers, on lists laid one after the other, and on what is asked of each after those before it. Assumes nothing.
 use mathlib.Core.Path.{_≡_, refl, sym, ap, ap₂, _∙_, subst}
-use mathlib.Core.Bool.{Bool, true, false, cond, _&&_, not}
+use mathlib.Core.Bool.{Bool, true, false, cond, _&&_, _||_, not}
 use mathlib.Core.Option.{Option, none, some}
 use mathlib.Core.List.{List, [], _∷_, _++_, map, append-assoc, append-nil}
 use Prim.Native.Nat.{ℕ, zero, suc, _+_, _*_, _-_, _≤_, _<_}
@@ -9,7 +9,9 @@ use native.Mathlib.Nat.{add-zero}
 use native.Mathlib.Omega.{arith}
 use lib.ListN.{length, getD, length-append}
 use lib.Seq.{append-snoc}
-use Rattle.kit.specs.Lists.{from, flat, eachAfter, top, Each}
+use lib.Dec.{ltb}
+use borrow.Author.Tests.{not-true, ltb-false, le-ltb}
+use Rattle.kit.specs.Lists.{any, isEmpty, atMostOne, from, flat, eachAfter, top}
 use Rattle.kit.specs.First.{AllOf}
 use Rattle.kit.proofs.Bools.{clash, and, both}
 
@@ -66,3 +68,70 @@ top-past t (suc m) r a b = go (t (suc m)) refl a (top-past t m r) (ℕ-discrete 
     go true e a ih d = absurd (omega arith)
     go false e a ih (yes q) = rw q e
     go false e a ih (no q) = let z : r ≡ suc m → ⊥ = q in ih a (omega arith)
+
+-- ---- what is asked of each after those before it
+module _ {A : Type 0} (f g : List A → A → Bool) where
+  pub after-both : (e l : List A) → eachAfter (λ b x. f b x && g b x) e l ≡ eachAfter f e l && eachAfter g e l
+  after-both e [] = refl
+  after-both e (x ∷ l) = rw (after-both (e ++ (x ∷ [])) l) (four (f e x) (g e x) (eachAfter f (e ++ (x ∷ [])) l) (eachAfter g (e ++ (x ∷ [])) l))
+    where
+      four : (a b c d : Bool) → (a && b) && (c && d) ≡ (a && c) && (b && d)
+      four true true c d = refl
+      four true false true d = refl
+      four true false false d = refl
+      four false b c d = refl
+
+  pub after-same : ((b : List A) (x : A) → f b x ≡ g b x) → (e l : List A) → eachAfter f e l ≡ eachAfter g e l
+  after-same h e [] = refl
+  after-same h e (x ∷ l) = rw (h e x, after-same h (e ++ (x ∷ [])) l) refl
+
+-- asked of what each element adds, of which there is at most one, after what those before it added
+module _ {A B : Type 0} (g : A → List B) (small : (a : A) → atMostOne (g a) ≡ true) (f : List B → B → Bool) where
+  pub after-added : (e l : List A) → eachAfter (λ b a. not (any (f (flat g b)) (g a))) e l ≡ eachAfter (λ b x. not (f b x)) (flat g e) (flat g l)
+  unfolding flat
+  after-added e [] = refl
+  after-added e (a ∷ l) = go (g a) (small a) (after-added (e ++ (a ∷ [])) l ∙ ap (λ (b : List B). eachAfter (λ b x. not (f b x)) b (flat g l)) (flat-snoc g e a))
+    where
+      go : (xs : List B) → atMostOne xs ≡ true → eachAfter (λ b a. not (any (f (flat g b)) (g a))) (e ++ (a ∷ [])) l ≡ eachAfter (λ b x. not (f b x)) (flat g e ++ xs) (flat g l)
+          → not (any (f (flat g e)) xs) && eachAfter (λ b a. not (any (f (flat g b)) (g a))) (e ++ (a ∷ [])) l ≡ eachAfter (λ b x. not (f b x)) (flat g e) (xs ++ flat g l)
+      go [] s ih = ih ∙ ap (λ (b : List B). eachAfter (λ b x. not (f b x)) b (flat g l)) (append-nil (flat g e))
+      go (x ∷ []) s ih = rw ih (or-false (f (flat g e) x))
+        where
+          or-false : (v : Bool) → not (v || false) && eachAfter (λ b x. not (f b x)) (flat g e ++ (x ∷ [])) (flat g l) ≡ not v && eachAfter (λ b x. not (f b x)) (flat g e ++ (x ∷ [])) (flat g l)
+          or-false true = refl
+          or-false false = refl
+      go (x ∷ y ∷ xs) s ih = clash s
+
+-- none before each: there is at most one
+pub after-none : {A : Type 0} (l : List A) → eachAfter (λ b x. not (not (isEmpty b))) [] l ≡ atMostOne l
+after-none [] = refl
+after-none (x ∷ []) = refl
+after-none (x ∷ y ∷ l) = refl
+
+-- each fits with those before it: all fit together
+module _ {A : Type 0} (most : ℕ) (w : A → ℕ) (total : List A → ℕ) (total-snoc : (l : List A) (x : A) → total (l ++ (x ∷ [])) ≡ total l + w x) where
+  abbrev fitsAfter : List A → A → Bool
+  fitsAfter b x = not (ltb most (total b + w x))
+
+  pub all-fit : (e l : List A) → total e ≤ most → eachAfter fitsAfter e l ≡ true → total (e ++ l) ≤ most
+  all-fit e [] h t = rw append-nil h
+  all-fit e (x ∷ l) h t =
+      let k = and (fitsAfter e x) (eachAfter fitsAfter (e ++ (x ∷ [])) l) t in
+      let s = ltb-false most (total e + w x) (not-true (ltb most (total e + w x)) (k .0)) in
+      let u : total (e ++ (x ∷ [])) ≤ most = rw (total-snoc e x) s in
+      rw (append-snoc e x l) at (all-fit (e ++ (x ∷ [])) l u (k .1))
+
+  total-grows : (e l : List A) → total e ≤ total (e ++ l)
+  total-grows e [] = rw append-nil (omega arith)
+  total-grows e (x ∷ l) =
+      let s = total-snoc e x in
+      let g = rw (append-snoc e x l) at (total-grows (e ++ (x ∷ [])) l) in
+      omega arith
+
+  pub fit-all : (e l : List A) → total (e ++ l) ≤ most → eachAfter fitsAfter e l ≡ true
+  fit-all e [] h = refl
+  fit-all e (x ∷ l) h =
+      let s = total-snoc e x in
+      let h′ : total ((e ++ (x ∷ [])) ++ l) ≤ most = rw (append-snoc e x l) h in
+      let g = total-grows (e ++ (x ∷ [])) l in
+      both (ap not (le-ltb most (total e + w x) (omega arith))) (fit-all (e ++ (x ∷ [])) l h′)

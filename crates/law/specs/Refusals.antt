@@ -44,8 +44,8 @@ isTooMany before (text kept) = ltb mostText (length (flat ended (flat textIn bef
 isTooMany before (rounds n) = false
 isTooMany before (colour c) = false
 isTooMany before (scoring given) = false
-isTooMany before (acceleration a) = leb mostAccelerations (length (flat accelerationIn before))
-isTooMany before (player p) = leb mostPlayers (length (flat playerIn before))
+isTooMany before (acceleration a) = ltb mostAccelerations (length (flat accelerationIn before) + 1)
+isTooMany before (player p) = ltb mostPlayers (length (flat playerIn before) + 1)
 
 -- the lines before it spell items, it spells one, and that is so of them
 pub record After (so : List Item → Item → Bool) (before : List Line) (l : Line) : Type 0 where
