@@ -135,3 +135,17 @@ module _ {A : Type 0} (most : ℕ) (w : A → ℕ) (total : List A → ℕ) (tot
       let h′ : total ((e ++ (x ∷ [])) ++ l) ≤ most = rw (append-snoc e x l) h in
       let g = total-grows (e ++ (x ∷ [])) l in
       both (ap not (le-ltb most (total e + w x) (omega arith))) (fit-all (e ++ (x ∷ [])) l h′)
+
+-- ---- of the images of a list
+module _ {A B : Type 0} (h : A → B) where
+  pub map-append : (k l : List A) → map h (k ++ l) ≡ map h k ++ map h l
+  map-append [] l = refl
+  map-append (x ∷ k) l = ap (λ (m : List B). h x ∷ m) (map-append k l)
+
+  pub any-map : (f : B → Bool) (l : List A) → any f (map h l) ≡ any (λ x. f (h x)) l
+  any-map f [] = refl
+  any-map f (x ∷ l) = ap (λ (v : Bool). f (h x) || v) (any-map f l)
+
+  pub after-map : (f : List B → B → Bool) (e l : List A) → eachAfter f (map h e) (map h l) ≡ eachAfter (λ b x. f (map h b) (h x)) e l
+  after-map f e [] = refl
+  after-map f e (x ∷ l) = ap (λ (v : Bool). f (map h e) (h x) && v) (ap (λ (b : List B). eachAfter f b (map h l)) (sym (map-append e (x ∷ []))) ∙ after-map f (e ++ (x ∷ [])) l)

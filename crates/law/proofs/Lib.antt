@@ -4,3 +4,6 @@ pub mod RecordsRead
 pub mod Faults
 pub mod LinesRead
 pub mod Seats
+pub mod ColumnLaws
+pub mod LinesLawful
+pub mod NewAndFew
