@@ -7,3 +7,4 @@ pub mod Seats
 pub mod ColumnLaws
 pub mod LinesLawful
 pub mod NewAndFew
+pub mod Accepts
