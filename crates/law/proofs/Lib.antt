@@ -8,3 +8,4 @@ pub mod ColumnLaws
 pub mod LinesLawful
 pub mod NewAndFew
 pub mod Accepts
+pub mod Judges
