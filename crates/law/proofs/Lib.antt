@@ -9,3 +9,4 @@ pub mod LinesLawful
 pub mod NewAndFew
 pub mod Accepts
 pub mod Judges
+pub mod ReadsOnce
