@@ -4,7 +4,8 @@ use mathlib.Core.Logic.{_⊎_, inl, inr}
 use mathlib.Core.Bool.{Bool, true, false, cond}
 use mathlib.Core.Option.{Option, none, some}
 use mathlib.Core.List.{List, [], _∷_, _++_, append-assoc, map}
-use Prim.Native.Nat.{ℕ}
+use Prim.Native.Nat.{ℕ, zero, suc, _<_}
+use lib.ListN.{length, getD}
 use native.Mathlib.Omega.{arith}
 use Rattle.kit.specs.Lists.{first, flat}
 use Rattle.kit.specs.First.{AllOf, NoneOf, FirstIn}
@@ -46,6 +47,11 @@ flat-all-of P f (x ∷ l) h = (all-of-left P (f x) (flat f l) h, flat-all-of P f
 pub all-of-each : {L : Type 0} (P Q : L → Type 0) → ((x : L) → P x → Q x) → (l : List L) → AllOf P l → AllOf Q l
 all-of-each P Q f [] h = tt
 all-of-each P Q f (x ∷ l) h = (f x (h .0), all-of-each P Q f l (h .1))
+
+pub all-of-at : {L : Type 0} (P : L → Type 0) (d : L) (l : List L) → AllOf P l → (k : ℕ) → k < length l → P (getD l k d)
+all-of-at P d [] h k m = absurd (omega arith)
+all-of-at P d (x ∷ l) h zero m = h .0
+all-of-at P d (x ∷ l) h (suc k) m = all-of-at P d l (h .1) k (omega arith)
 
 module _ {L : Type 0} (P : L → Type 0) where
   -- ---- one at most

@@ -5,10 +5,10 @@ use mathlib.Core.Option.{Option, none, some}
 use mathlib.Core.List.{List, [], _∷_, _++_, map, append-assoc, append-nil}
 use Prim.Native.Nat.{ℕ, zero, suc, _+_, _*_, _-_, _≤_, _<_}
 use native.Mathlib.Decide.{ℕ-discrete}
-use native.Mathlib.Nat.{add-zero}
+use native.Mathlib.Nat.{add-zero, zero-add, zero-mul, suc-mul}
 use native.Mathlib.Omega.{arith}
-use lib.ListN.{length, getD, length-append}
-use lib.Seq.{append-snoc}
+use lib.ListN.{length, getD, length-append, List·getD-append}
+use lib.Seq.{append-snoc, getD-append-add}
 use lib.Dec.{ltb}
 use borrow.Author.Tests.{not-true, ltb-false, le-ltb}
 use Rattle.kit.specs.Lists.{any, isEmpty, atMostOne, from, flat, eachAfter, top}
@@ -48,6 +48,22 @@ module _ {A B : Type 0} (f : A → List B) where
   pub flat-snoc : (l : List A) (x : A) → flat f (l ++ (x ∷ [])) ≡ flat f l ++ f x
   unfolding flat
   flat-snoc l x = flat-append l (x ∷ []) ∙ ap (λ (u : List B). flat f l ++ u) (append-nil (f x))
+
+-- lists of one width laid one after the other
+module _ {A B : Type 0} (f : A → List B) (w : ℕ) where
+  pub flat-length : (l : List A) → AllOf (λ x. length (f x) ≡ w) l → length (flat f l) ≡ length l * w
+  unfolding flat
+  flat-length [] h = sym (zero-mul w)
+  flat-length (x ∷ l) h = let z = h .0 in let y = flat-length l (h .1) in rw (length-append, suc-mul) (omega arith)
+
+  pub flat-at : (d : A) (e : B) (l : List A) → AllOf (λ x. length (f x) ≡ w) l → (p r : ℕ) → p < length l → r < w → getD (flat f l) (p * w + r) e ≡ getD (f (getD l p d)) r e
+  unfolding flat
+  flat-at d e [] h p r a c = absurd (omega arith)
+  flat-at d e (x ∷ l) h zero r a c = let z = h .0 in rw (zero-mul, zero-add) (List·getD-append (f x) (flat f l) e r (omega arith))
+  flat-at d e (x ∷ l) h (suc p) r a c =
+      let z = h .0 in
+      let q : suc p * w + r ≡ length (f x) + (p * w + r) = rw suc-mul (omega arith) in
+      rw q (getD-append-add (f x) (flat f l) (p * w + r) e ∙ flat-at d e l (h .1) p r (omega arith) c)
 
 -- ---- the highest number that passes a test
 pub top-low : (t : ℕ → Bool) (m : ℕ) → top t m ≤ m

@@ -10,3 +10,4 @@ pub mod NewAndFew
 pub mod Accepts
 pub mod Judges
 pub mod ReadsOnce
+pub mod TwoReadings
