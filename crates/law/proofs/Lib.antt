@@ -11,3 +11,5 @@ pub mod Accepts
 pub mod Judges
 pub mod ReadsOnce
 pub mod TwoReadings
+pub mod Samples
+pub mod Marked

@@ -40,19 +40,15 @@ line-end (c ∷ x) (d ∷ y) r s h k e =
     let v = line-end x y r s (and (allowed c) (all allowed x) h .1) (and (allowed d) (all allowed y) k .1) (cc) in
     (ap₂ (λ (a : ℕ) (l : List ℕ). a ∷ l) u (v .0), v .1)
 
+not-nothing : (x r : List ℕ) → _≡_ {A = List ℕ} [] (ended x ++ r) → ⊥
+not-nothing [] r e = let z : _≡_ {A = ℕ} 0 1 = cc in omega arith
+not-nothing (c ∷ x) r e = let z : _≡_ {A = ℕ} 0 1 = cc in omega arith
+
 pub same-lines : (a b : List (List ℕ)) → AllOf KeptLine a → AllOf KeptLine b → flat ended a ≡ flat ended b → a ≡ b
 unfolding flat
 same-lines [] [] h k e = refl
-same-lines [] (y ∷ b) h k e = absurd (none y b e)
-  where
-    none : (y : List ℕ) (b : List (List ℕ)) → _≡_ {A = List ℕ} [] ((y ++ (CR ∷ [])) ++ flat ended b) → ⊥
-    none [] b e = let z : _≡_ {A = ℕ} 0 1 = cc in omega arith
-    none (c ∷ y) b e = let z : _≡_ {A = ℕ} 0 1 = cc in omega arith
-same-lines (x ∷ a) [] h k e = absurd (none x a (sym e))
-  where
-    none : (y : List ℕ) (b : List (List ℕ)) → _≡_ {A = List ℕ} [] ((y ++ (CR ∷ [])) ++ flat ended b) → ⊥
-    none [] b e = let z : _≡_ {A = ℕ} 0 1 = cc in omega arith
-    none (c ∷ y) b e = let z : _≡_ {A = ℕ} 0 1 = cc in omega arith
+same-lines [] (y ∷ b) h k e = absurd (not-nothing y (flat ended b) e)
+same-lines (x ∷ a) [] h k e = absurd (not-nothing x (flat ended a) (sym e))
 same-lines (x ∷ a) (y ∷ b) h k e =
     let f : x ++ (CR ∷ flat ended a) ≡ y ++ (CR ∷ flat ended b) = sym (append-assoc x (CR ∷ []) (flat ended a)) ∙ e ∙ append-assoc y (CR ∷ []) (flat ended b) in
     let v = line-end x y (flat ended a) (flat ended b) (h .0 .clean) (k .0 .clean) f in
