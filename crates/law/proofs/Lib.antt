@@ -13,3 +13,4 @@ pub mod ReadsOnce
 pub mod TwoReadings
 pub mod Samples
 pub mod Marked
+pub mod Guards

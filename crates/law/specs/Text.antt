@@ -2,7 +2,7 @@
 use mathlib.Core.Path.{_≡_}
 use mathlib.Core.Bool.{Bool, true, false, _&&_, _||_, not}
 use mathlib.Core.List.{List, [], _∷_, _++_}
-use Prim.Native.Nat.{ℕ}
+use Prim.Native.Nat.{ℕ, suc}
 use lib.ListN.{replicate}
 use Rattle.kit.specs.Ascii.{ascii}
 use Rattle.kit.specs.Lists.{any, same}
@@ -27,7 +27,7 @@ isName row = same (part codeField row) nameCode
 
 -- "012 must [..] have something other than a blank after column 4"
 abbrev pub saysName : List ℕ → Bool
-saysName row = not (isName row) || not (blankFrom 5 row)
+saysName row = not (isName row) || not (blankFrom (suc afterCode) row)
 
 abbrev pub lastOr : ℕ → List ℕ → ℕ
 lastOr c [] = c
