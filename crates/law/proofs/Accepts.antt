@@ -109,14 +109,14 @@ module _ (ls : List Line) (is : List Item) (h : Each SpellsLine ls is) where
         let na = acceleration-lines ls is h in (
           not-file incomplete (ap not (g .complete)),
           all-of-append Not (eachRound past-142 (playerSeats ls)) _
-          (all-rounds Not past-142 ps (λ p r l a b. not-file (past-142 (seat p ps) r) (g .none-past p r (omega arith) a b)))
-          (all-of-append Not (map shared (accelerationSeats ls)) _
-          (all-of-map Not shared (accelerationSeats ls) (all-seats (λ s. Not (shared s)) as′ (λ j l. not-file (shared (seat j as′)) (g .apart j (omega arith)))))
-          (all-of-append Not (eachRound (unlawful bye-or-game) (playerSeats ls)) _ (rounds bye-or-game np)
-          (all-of-append Not (eachRound (unlawful mutual-pairing) (playerSeats ls)) _ (rounds mutual-pairing np)
-          (all-of-append Not (eachRound (unlawful fitting-results) (playerSeats ls)) _ (rounds fitting-results np)
-          (all-of-append Not (eachRound (unlawful one-U) (playerSeats ls)) (map wrong-sum (playerSeats ls)) (rounds one-U np)
-          (all-of-map Not wrong-sum (playerSeats ls) (all-seats (λ s. Not (wrong-sum s)) ps (λ p l. not-file (wrong-sum (seat p ps)) (ap not (g .sums p (omega arith)))))))))))
+              (all-rounds Not past-142 ps (λ p r l a b. not-file (past-142 (seat p ps) r) (g .none-past p r (omega arith) a b)))
+              (all-of-append Not (map shared (accelerationSeats ls)) _
+              (all-of-map Not shared (accelerationSeats ls) (all-seats (λ s. Not (shared s)) as′ (λ j l. not-file (shared (seat j as′)) (g .apart j (omega arith)))))
+              (all-of-append Not (eachRound (unlawful bye-or-game) (playerSeats ls)) _ (rounds bye-or-game np)
+              (all-of-append Not (eachRound (unlawful mutual-pairing) (playerSeats ls)) _ (rounds mutual-pairing np)
+              (all-of-append Not (eachRound (unlawful fitting-results) (playerSeats ls)) _ (rounds fitting-results np)
+              (all-of-append Not (eachRound (unlawful one-U) (playerSeats ls)) (map wrong-sum (playerSeats ls)) (rounds one-U np)
+              (all-of-map Not wrong-sum (playerSeats ls) (all-seats (λ s. Not (wrong-sum s)) ps (λ p l. not-file (wrong-sum (seat p ps)) (ap not (g .sums p (omega arith))))))))))),
         )
       where
         law-not : (law : Law) (p r : ℕ) → p < length (flat playerIn is) → 1 ≤ r → (b : Bool) → leb r (tournamentOf is .rounds) ≡ b → b && not (keeps (tournamentOf is) law p r) ≡ false
@@ -246,8 +246,8 @@ module _ (file : List ℕ) (ls : List Line) (are : Lines file ls) where
         (
           λ q. omega arith,
           all-of-append (λ x. IsFault true file ls x → ⊥) (lineLabels [] ls) (fileLabels (playerSeats ls) (accelerationSeats ls))
-          (good-lines true file ls ls [] [] (s .items) tt l)
-          (good-file ls (s .items) (l .spelled) true file (rounds-small ls (s .items) (l .sound) (l .spelled)) g),
+              (good-lines true file ls ls [] [] (s .items) tt l)
+              (good-file ls (s .items) (l .spelled) true file (rounds-small ls (s .items) (l .sound) (l .spelled)) g),
         ),
       )
 

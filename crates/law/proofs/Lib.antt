@@ -14,3 +14,5 @@ pub mod TwoReadings
 pub mod Samples
 pub mod Marked
 pub mod Guards
+pub mod Edges
+pub mod LawfulTested

@@ -223,8 +223,8 @@ module _ (file : List ℕ) where
   pub always : (Says : Answer → Type 0) → ((before : Lent) (a : Answer) (after : Lent) → Leaves (outcomeOf true file) before a after → Says a) → Always file Says
   always Says h = λ before long. (
     λ a after r.
-    let j = subst (λ (b : Bool). Judged b file (r .outcome)) long (r .judged) in
-    h before a after (subst (λ (o : Outcome). Leaves o before a after) (sym (is-judged true file (r .outcome) j)) (r .leaves)),
+        let j = subst (λ (b : Bool). Judged b file (r .outcome)) long (r .judged) in
+        h before a after (subst (λ (o : Outcome). Leaves o before a after) (sym (is-judged true file (r .outcome) j)) (r .leaves)),
     reads-some file before,
   )
 
@@ -283,8 +283,8 @@ tested (scores line played n) e = go (itemOf line) refl e
     go (some (Item.player q)) p e = clash e
 tested (stores file cells) e = λ before long. (
   λ a after r.
-  let j = subst (λ (b : Bool). Judged b file (r .outcome)) long (r .judged) in
-  stored-says cells (outcomeOf true file) e before a after (subst (λ (o : Outcome). Leaves o before a after) (sym (is-judged true file (r .outcome) j)) (r .leaves)),
+      let j = subst (λ (b : Bool). Judged b file (r .outcome)) long (r .judged) in
+      stored-says cells (outcomeOf true file) e before a after (subst (λ (o : Outcome). Leaves o before a after) (sym (is-judged true file (r .outcome) j)) (r .leaves)),
   reads-some file before,
 )
 tested (rewrites file bytes) e = go (outcomeOf true file) refl e

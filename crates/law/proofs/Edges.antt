@@ -1,0 +1,68 @@
+-- The limits of document 01 by their numerals, where a row would be too long to compute. Assumes nothing.
+use mathlib.Core.Path.{_≡_, refl, sym, ap, _∙_, subst}
+use mathlib.Core.Bool.{Bool, true, false, not}
+use mathlib.Core.List.{List, [], _∷_, map}
+use Prim.Native.Nat.{ℕ, _+_, _≤_, _<_}
+use native.Mathlib.Omega.{arith}
+use lib.ListN.{length}
+use borrow.Author.Tests.{lt-ltb, le-ltb}
+use Rattle.kit.specs.Lists.{flat}
+use Rattle.kit.specs.First.{FirstIn}
+use Rattle.kit.proofs.Bools.{clash}
+use Rattle.types.specs.declared.Acceleration.{Acceleration}
+use Rattle.law.specs.Text.{ended}
+use Rattle.law.specs.Players.{PlayerLine}
+use Rattle.law.specs.Items.{Item, text, acceleration, player}
+use Rattle.law.specs.Tournament.{textIn, accelerationIn, playerIn}
+use Rattle.law.specs.Tables.{Tables, rooms, lineCells}
+use Rattle.law.specs.Refusals.{isTooMany, Label, too-short, too-big, labels, IsFault, refusal, refused, Judged}
+use Rattle.law.proofs.Cut.{cut, lines-are}
+
+-- "200 each", "14,000 bytes", "4,000 each", "2,048", "32"; "200 players, then 32 acceleration records"
+pub sizes : (t : Tables) → map (λ (x : ℕ × ℕ). x .0) (rooms t) ≡ 200 ∷ 200 ∷ 200 ∷ 14000 ∷ 4000 ∷ 4000 ∷ 4000 ∷ 2048 ∷ 32 ∷ []
+sizes t = refl
+
+pub line-cells : lineCells ≡ 232
+line-cells = refl
+
+-- 2 for every file over 65,535 bytes, whatever is in it
+pub too-big-refused : (file : List ℕ) → 65536 ≤ length file → Judged true file (refused (refusal 2 0 0))
+unfolding labels
+too-big-refused file l =
+    record {
+      lines = cut false file;
+      are = lines-are file;
+      label = too-big;
+      first = record { before = too-short ∷ []; after = _; stands = refl; none-before = (λ e. clash (sym e), tt); holds = l };
+      says = refl;
+    }
+
+-- and for no other
+pub small-not-too-big : (file : List ℕ) → length file ≤ 65535 → (lines : List _) → IsFault true file lines too-big → ⊥
+small-not-too-big file l lines h = omega arith
+
+-- 9: the 201st player and not the 200th, the 33rd record and not the 32nd, text of 2,049 bytes and not of 2,048
+module _ (before : List Item) where
+  pub players-full : (p : PlayerLine) → length (flat playerIn before) ≡ 200 → isTooMany before (player p) ≡ true
+  unfolding isTooMany
+  players-full p e = lt-ltb 200 (length (flat playerIn before) + 1) (omega arith)
+
+  pub players-room : (p : PlayerLine) → length (flat playerIn before) ≡ 199 → isTooMany before (player p) ≡ false
+  unfolding isTooMany
+  players-room p e = le-ltb 200 (length (flat playerIn before) + 1) (omega arith)
+
+  pub accelerations-full : (a : Acceleration) → length (flat accelerationIn before) ≡ 32 → isTooMany before (acceleration a) ≡ true
+  unfolding isTooMany
+  accelerations-full a e = lt-ltb 32 (length (flat accelerationIn before) + 1) (omega arith)
+
+  pub accelerations-room : (a : Acceleration) → length (flat accelerationIn before) ≡ 31 → isTooMany before (acceleration a) ≡ false
+  unfolding isTooMany
+  accelerations-room a e = le-ltb 32 (length (flat accelerationIn before) + 1) (omega arith)
+
+  pub text-full : (line : List ℕ) → length (flat ended (flat textIn before)) + length (ended line) ≡ 2049 → isTooMany before (text line) ≡ true
+  unfolding isTooMany
+  text-full line e = lt-ltb 2048 (length (flat ended (flat textIn before)) + length (ended line)) (omega arith)
+
+  pub text-room : (line : List ℕ) → length (flat ended (flat textIn before)) + length (ended line) ≡ 2048 → isTooMany before (text line) ≡ false
+  unfolding isTooMany
+  text-room line e = le-ltb 2048 (length (flat ended (flat textIn before)) + length (ended line)) (omega arith)
