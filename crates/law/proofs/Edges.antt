@@ -14,9 +14,12 @@ use Rattle.law.specs.Text.{ended}
 use Rattle.law.specs.Players.{PlayerLine}
 use Rattle.law.specs.Items.{Item, text, acceleration, player}
 use Rattle.law.specs.Tournament.{textIn, accelerationIn, playerIn}
-use Rattle.law.specs.Tables.{Tables, rooms, lineCells}
-use Rattle.law.specs.Refusals.{isTooMany, Label, too-short, too-big, labels, IsFault, refusal, refused, Judged}
+use Rattle.types.specs.declared.Answer.{Answer}
+use Rattle.law.specs.Tables.{Tables, Lent, rooms, lineCells, enoughLent}
+use Rattle.law.specs.Refusals.{isTooMany, Label, too-short, too-big, labels, IsFault, refusal, Outcome, refused, Judged}
+use Rattle.law.specs.Calls.{refusedAnswer, Cleared, Leaves, Reads}
 use Rattle.law.proofs.Cut.{cut, lines-are}
+use Rattle.law.proofs.Judges.{one-outcome}
 
 -- "200 each", "14,000 bytes", "4,000 each", "2,048", "32"; "200 players, then 32 acceleration records"
 pub sizes : (t : Tables) → map (λ (x : ℕ × ℕ). x .0) (rooms t) ≡ 200 ∷ 200 ∷ 200 ∷ 14000 ∷ 4000 ∷ 4000 ∷ 4000 ∷ 2048 ∷ 32 ∷ []
@@ -66,3 +69,25 @@ module _ (before : List Item) where
   pub text-room : (line : List ℕ) → length (flat ended (flat textIn before)) + length (ended line) ≡ 2048 → isTooMany before (text line) ≡ false
   unfolding isTooMany
   text-room line e = le-ltb 2048 (length (flat ended (flat textIn before)) + length (ended line)) (omega arith)
+
+too-short-refused : (file : List ℕ) → Judged false file (refused (refusal 1 0 0))
+unfolding labels
+too-short-refused file =
+    record {
+      lines = cut false file;
+      are = lines-are file;
+      label = too-short;
+      first = record { before = []; after = _; stands = refl; none-before = tt; holds = refl };
+      says = refl;
+    }
+
+-- 1: with a lent table that is too short every file gets it, and no table is touched
+pub short-untouched : (file : List ℕ) (before : Lent) → enoughLent before ≡ false → (a : Answer) (after : Lent) → Reads file before a after
+    → (a .number ≡ 1) × (a .line .0 ≡ 0) × (a .round ≡ 0) × (after ≡ before)
+unfolding refusedAnswer
+short-untouched file before short a after r =
+    let j = subst (λ (b : Bool). Judged b file (r .outcome)) short (r .judged) in
+    let e = one-outcome false file (r .outcome) (refused (refusal 1 0 0)) j (too-short-refused file) in
+    let l = subst (λ (o : Outcome). Leaves o before a after) e (r .leaves) in
+    let s = l .0 in
+    (ap (λ (a : Answer). a .number) s, ap (λ (a : Answer). a .line .0) s, ap (λ (a : Answer). a .round) s, subst (λ (b : Bool). Cleared b before after) short (l .1))

@@ -7,7 +7,7 @@ use mathlib.Core.List.{List, [], _∷_, _++_, map}
 use Prim.Native.Nat.{ℕ, _<_}
 use Prim.Native.Char.{code}
 use lib.Dec.{eqb, ltb}
-use lib.ListN.{length, getD}
+use lib.ListN.{length, getD, getD-replicate}
 use borrow.Author.Tests.{eqb-true, ltb-true}
 use Rattle.kit.specs.Lists.{all, same}
 use Rattle.kit.specs.First.{AllOf}
@@ -24,10 +24,10 @@ use Rattle.law.specs.Tournament.{Entry, Tournament}
 use Rattle.law.specs.Entries.{earned}
 use Rattle.law.specs.Lawful.{noAcceleration}
 use Rattle.law.specs.Spelling.{SpellsFile}
-use Rattle.law.specs.Tables.{Lent, enoughLent, keptCells, entryCells, lineCells, contentOf, linesContent, answerOf}
-use Rattle.law.specs.Refusals.{Refusal, refusal, Outcome, refused, accepted, Judged}
+use Rattle.law.specs.Tables.{Lent, enoughLent, keptCells, entryCells, lineCells, contentOf, linesContent, zeros, HoldLent, answerOf}
+use Rattle.law.specs.Refusals.{Refusal, Outcome, refused, accepted, Judged}
 use Rattle.law.specs.Writing.{written, earnedBefore, accelerationFor}
-use Rattle.law.specs.Calls.{refusedAnswer, Leaves, Reads}
+use Rattle.law.specs.Calls.{refusedAnswer, Cleared, Leaves, Reads}
 use Rattle.law.proofs.RecordsRead.{itemOf, item}
 use Rattle.law.proofs.Accepts.{one-tournament}
 use Rattle.law.proofs.Judges.{outcomeOf, judged, is-judged}
@@ -60,8 +60,8 @@ cellIn a x text-length i = a .text
 cellIn a x initial-colour i = a .colour
 cellIn a x value i = getD (a .values) i 0
 
--- the cell is one of its table's listed cells
-abbrev cellsIn : Table → ℕ
+-- how many listed cells a table has
+abbrev pub cellsIn : Table → ℕ
 cellsIn starts = mostPlayers
 cellsIn points = mostPlayers
 cellsIn ranks = mostPlayers
@@ -126,15 +126,23 @@ pub record Counts (players rounds accelerations : ℕ) (a : Answer) : Type 0 whe
   pub rounds-are : a .rounds ≡ rounds
   pub accelerations-are : a .accelerations ≡ accelerations
 
--- for every content before that is long enough: what every permitted answer is, and that one is permitted
-abbrev pub Always : List ℕ → (Answer → Type 0) → Type 0
-Always file Says = (before : Lent) → enoughLent before ≡ true → ((a : Answer) (after : Lent) → Reads file before a after → Says a) × ((a : Answer) × (after : Lent) × Reads file before a after)
+-- and to a refused file: number, line and round, and zero in every other part and in every listed cell
+pub record Refuses (number line round : ℕ) (a : Answer) (after : Lent) : Type 0 where
+  pub number-is : a .number ≡ number
+  pub line-is : a .line .0 ≡ line
+  pub round-is : a .round ≡ round
+  pub players-are : a .players ≡ 0
+  pub rounds-are : a .rounds ≡ 0
+  pub accelerations-are : a .accelerations ≡ 0
+  pub cleared : (k : Table) (i : ℕ) → i < cellsIn k → cellIn a after k i ≡ 0
 
--- the same of the content: each cell as listed
-abbrev pub AlwaysHolds : List ℕ → List (Table × ℕ × ℕ) → Type 0
-AlwaysHolds file cells =
-    (before : Lent) → enoughLent before ≡ true
-    → ((a : Answer) (after : Lent) → Reads file before a after → AllOf (λ (c : Table × ℕ × ℕ). cellIn a after (c .0) (c .1) ≡ c .2) cells) × ((a : Answer) × (after : Lent) × Reads file before a after)
+-- for every content before that is long enough: what every permitted answer and content is, and that one is permitted
+abbrev pub Always : List ℕ → (Answer → Lent → Type 0) → Type 0
+Always file Says = (before : Lent) → enoughLent before ≡ true → ((a : Answer) (after : Lent) → Reads file before a after → Says a after) × ((a : Answer) × (after : Lent) × Reads file before a after)
+
+-- each cell as listed
+abbrev pub HoldsCells : List (Table × ℕ × ℕ) → Answer → Lent → Type 0
+HoldsCells cells a after = AllOf (λ (c : Table × ℕ × ℕ). cellIn a after (c .0) (c .1) ≡ c .2) cells
 
 -- of every tournament that the file spells
 abbrev pub OfSpelled : List ℕ → (Tournament → Type 0) → Type 0
@@ -144,10 +152,10 @@ abbrev pub asEntry : ℕ → Entry
 asEntry result = record { id = 0; colour = code "-"; result = result }
 
 unfoldable pub RowHolds : Row → Type 0
-RowHolds (refuses file k l r) = Always file (λ a. a ≡ refusedAnswer (refusal k l r))
-RowHolds (accepts file p r n) = Always file (Counts p r n)
+RowHolds (refuses file k l r) = Always file (Refuses k l r)
+RowHolds (accepts file p r n) = Always file (λ a after. Counts p r n a)
 RowHolds (scores line played n) = (given : List (ℕ × ℕ)) × SpellsItem line (scoring given) × (earned (scoringOf given) (map asEntry played) ≡ n)
-RowHolds (stores file cells) = AlwaysHolds file cells
+RowHolds (stores file cells) = Always file (HoldsCells cells)
 RowHolds (rewrites file bytes) = OfSpelled file (λ t. written cr t ≡ bytes)
 RowHolds (asks file place round sum acceleration) = OfSpelled file (λ t. (earnedBefore t place round ≡ sum) × (accelerationFor t place round ≡ acceleration))
 RowHolds (spells line) = (i : Item) × SpellsItem line i
@@ -195,38 +203,68 @@ test (spells line) = isSome (itemOf line)
 test (spells-nothing line) = not (isSome (itemOf line))
 
 -- ---- what is computed holds of the relation
-module _ (file : List ℕ) where
-  refused-says : (k l r : ℕ) (o : Outcome) → isRefused k l r o ≡ true → (before : Lent) (a : Answer) (after : Lent) → Leaves o before a after → a ≡ refusedAnswer (refusal k l r)
-  refused-says k l r (accepted t ps rs) e before a after h = clash e
-  refused-says k l r (refused x) e before a after h =
-      let p = and (eqb (x .number) k && eqb (x .line) l) (eqb (x .round) r) e in
-      let q = and (eqb (x .number) k) (eqb (x .line) l) (p .0) in
-      let u : x ≡ refusal k l r = λ i. record { number = eqb-true (x .number) k (q .0) i; line = eqb-true (x .line) l (q .1) i; round = eqb-true (x .round) r (p .1) i } in
-      h .0 ∙ ap refusedAnswer u
+pub always : (file : List ℕ) (Says : Answer → Lent → Type 0) → ((before : Lent) → enoughLent before ≡ true → (a : Answer) (after : Lent) → Leaves (outcomeOf true file) before a after → Says a after) → Always file Says
+always file Says h = λ before long. (
+  λ a after r.
+      let j = subst (λ (b : Bool). Judged b file (r .outcome)) long (r .judged) in
+      h before long a after (subst (λ (o : Outcome). Leaves o before a after) (sym (is-judged true file (r .outcome) j)) (r .leaves)),
+  reads-some file before,
+)
 
-  accepted-says : (p r n : ℕ) (o : Outcome) → isAccepted p r n o ≡ true → (before : Lent) (a : Answer) (after : Lent) → Leaves o before a after → Counts p r n a
-  unfolding answerOf
-  accepted-says p r n (refused x) e before a after h = clash e
-  accepted-says p r n (accepted t ps rs) e before a after h =
-      let j = and (eqb (length (t .players)) p && eqb (t .rounds) r) (eqb (length (t .accelerations)) n) e in
-      let k = and (eqb (length (t .players)) p) (eqb (t .rounds) r) (j .0) in
-      let s = h .0 in
-      record {
-        number = ap (λ (a : Answer). a .number) s;
-        line = ap (λ (a : Answer). a .line .0) s;
-        round = ap (λ (a : Answer). a .round) s;
-        players-are = ap (λ (a : Answer). a .players) s ∙ eqb-true (length (t .players)) p (k .0);
-        rounds-are = ap (λ (a : Answer). a .rounds) s ∙ eqb-true (t .rounds) r (k .1);
-        accelerations-are = ap (λ (a : Answer). a .accelerations) s ∙ eqb-true (length (t .accelerations)) n (j .1);
-      }
+-- ---- a refusal
+cleared-cell : (x : Refusal) (before after : Lent) (a : Answer) → a ≡ refusedAnswer x → HoldLent zeros (λ i. 0) before after → (k : Table) (i : ℕ) → i < cellsIn k → cellIn a after k i ≡ 0
+unfolding zeros refusedAnswer
+cleared-cell x before after a e h starts i l = h .tables .starts .cells i l
+cleared-cell x before after a e h points i l = h .tables .points .cells i l
+cleared-cell x before after a e h ranks i l = h .tables .ranks .cells i l
+cleared-cell x before after a e h kept i l = h .tables .kept .cells i l
+cleared-cell x before after a e h opponents i l = h .tables .opponents .cells i l
+cleared-cell x before after a e h colours i l = h .tables .colours .cells i l
+cleared-cell x before after a e h results i l = h .tables .results .cells i l
+cleared-cell x before after a e h text i l = h .tables .text .cells i l
+cleared-cell x before after a e h lines i l = h .lines .cells i l
+cleared-cell x before after a e h added i l = ap (λ (x : Acceleration). x .points) (h .tables .accelerations .cells i l)
+cleared-cell x before after a e h first-rounds i l = ap (λ (x : Acceleration). x .«first_round») (h .tables .accelerations .cells i l)
+cleared-cell x before after a e h last-rounds i l = ap (λ (x : Acceleration). x .«last_round») (h .tables .accelerations .cells i l)
+cleared-cell x before after a e h first-starts i l = ap (λ (x : Acceleration). x .«first_start») (h .tables .accelerations .cells i l)
+cleared-cell x before after a e h last-starts i l = ap (λ (x : Acceleration). x .«last_start») (h .tables .accelerations .cells i l)
+cleared-cell x before after a e h text-length i l = ap (λ (x : Answer). x .text) e
+cleared-cell x before after a e h initial-colour i l = ap (λ (x : Answer). x .colour) e
+cleared-cell x before after a e h value i l = ap (λ (x : Answer). getD (x .values) i 0) e ∙ getD-replicate 6 i 0 0 l
 
-  pub always : (Says : Answer → Type 0) → ((before : Lent) (a : Answer) (after : Lent) → Leaves (outcomeOf true file) before a after → Says a) → Always file Says
-  always Says h = λ before long. (
-    λ a after r.
-        let j = subst (λ (b : Bool). Judged b file (r .outcome)) long (r .judged) in
-        h before a after (subst (λ (o : Outcome). Leaves o before a after) (sym (is-judged true file (r .outcome) j)) (r .leaves)),
-    reads-some file before,
-  )
+refused-says : (k l r : ℕ) (o : Outcome) → isRefused k l r o ≡ true → (before : Lent) → enoughLent before ≡ true → (a : Answer) (after : Lent) → Leaves o before a after → Refuses k l r a after
+unfolding refusedAnswer
+refused-says k l r (accepted t ps rs) e before long a after h = clash e
+refused-says k l r (refused x) e before long a after h =
+    let p = and (eqb (x .number) k && eqb (x .line) l) (eqb (x .round) r) e in
+    let q = and (eqb (x .number) k) (eqb (x .line) l) (p .0) in
+    let s = h .0 in
+    record {
+      number-is = ap (λ (a : Answer). a .number) s ∙ eqb-true (x .number) k (q .0);
+      line-is = ap (λ (a : Answer). a .line .0) s ∙ eqb-true (x .line) l (q .1);
+      round-is = ap (λ (a : Answer). a .round) s ∙ eqb-true (x .round) r (p .1);
+      players-are = ap (λ (a : Answer). a .players) s;
+      rounds-are = ap (λ (a : Answer). a .rounds) s;
+      accelerations-are = ap (λ (a : Answer). a .accelerations) s;
+      cleared = cleared-cell x before after a s (subst (λ (b : Bool). Cleared b before after) long (h .1));
+    }
+
+-- ---- an acceptance
+accepted-says : (p r n : ℕ) (o : Outcome) → isAccepted p r n o ≡ true → (before : Lent) → enoughLent before ≡ true → (a : Answer) (after : Lent) → Leaves o before a after → Counts p r n a
+unfolding answerOf
+accepted-says p r n (refused x) e before long a after h = clash e
+accepted-says p r n (accepted t ps rs) e before long a after h =
+    let j = and (eqb (length (t .players)) p && eqb (t .rounds) r) (eqb (length (t .accelerations)) n) e in
+    let k = and (eqb (length (t .players)) p) (eqb (t .rounds) r) (j .0) in
+    let s = h .0 in
+    record {
+      number = ap (λ (a : Answer). a .number) s;
+      line = ap (λ (a : Answer). a .line .0) s;
+      round = ap (λ (a : Answer). a .round) s;
+      players-are = ap (λ (a : Answer). a .players) s ∙ eqb-true (length (t .players)) p (k .0);
+      rounds-are = ap (λ (a : Answer). a .rounds) s ∙ eqb-true (t .rounds) r (k .1);
+      accelerations-are = ap (λ (a : Answer). a .accelerations) s ∙ eqb-true (length (t .accelerations)) n (j .1);
+    }
 
 -- ---- cells
 module _ (t : Tournament) (ps rs : List ℕ) (before after : Lent) (a : Answer) (h : Leaves (accepted t ps rs) before a after) where
@@ -256,9 +294,9 @@ module _ (t : Tournament) (ps rs : List ℕ) (before after : Lent) (a : Answer) 
       let j = and (ltb (c .1) (cellsIn (c .0))) (eqb (cellOfTournament t ps rs (c .0) (c .1)) (c .2)) (k .0) in
       (holds-cell (c .0) (c .1) (ltb-true (c .1) (cellsIn (c .0)) (j .0)) ∙ eqb-true (cellOfTournament t ps rs (c .0) (c .1)) (c .2) (j .1), holds-cells cells (k .1))
 
-stored-says : (cells : List (Table × ℕ × ℕ)) (o : Outcome) → areStored cells o ≡ true → (before : Lent) (a : Answer) (after : Lent) → Leaves o before a after → AllOf (λ (c : Table × ℕ × ℕ). cellIn a after (c .0) (c .1) ≡ c .2) cells
-stored-says cells (refused x) e before a after h = clash e
-stored-says cells (accepted t ps rs) e before a after h = holds-cells t ps rs before after a h cells e
+stored-says : (cells : List (Table × ℕ × ℕ)) (o : Outcome) → areStored cells o ≡ true → (before : Lent) → enoughLent before ≡ true → (a : Answer) (after : Lent) → Leaves o before a after → HoldsCells cells a after
+stored-says cells (refused x) e before long a after h = clash e
+stored-says cells (accepted t ps rs) e before long a after h = holds-cells t ps rs before after a h cells e
 
 -- ---- the tournament that is spelled
 spelled-as : (file : List ℕ) (Says : Tournament → Type 0) (t : Tournament) (ps rs : List ℕ) → outcomeOf true file ≡ accepted t ps rs → Says t → OfSpelled file Says
@@ -268,8 +306,8 @@ spelled-as file Says t ps rs e h =
 
 tested : (r : Row) → test r ≡ true → RowHolds r
 unfolding test RowHolds
-tested (refuses file k l r) e = always file (λ a. a ≡ refusedAnswer (refusal k l r)) (refused-says file k l r (outcomeOf true file) e)
-tested (accepts file p r n) e = always file (Counts p r n) (accepted-says file p r n (outcomeOf true file) e)
+tested (refuses file k l r) e = always file (Refuses k l r) (refused-says k l r (outcomeOf true file) e)
+tested (accepts file p r n) e = always file (λ a after. Counts p r n a) (accepted-says p r n (outcomeOf true file) e)
 tested (scores line played n) e = go (itemOf line) refl e
   where
     go : (o : Option Item) → itemOf line ≡ o → isScored played n o ≡ true → (given : List (ℕ × ℕ)) × SpellsItem line (scoring given) × (earned (scoringOf given) (map asEntry played) ≡ n)
@@ -281,12 +319,7 @@ tested (scores line played n) e = go (itemOf line) refl e
     go (some (scoring given)) p e = (given, item .sound line (scoring given) p, eqb-true (earned (scoringOf given) (map asEntry played)) n e)
     go (some (Item.acceleration a)) p e = clash e
     go (some (Item.player q)) p e = clash e
-tested (stores file cells) e = λ before long. (
-  λ a after r.
-      let j = subst (λ (b : Bool). Judged b file (r .outcome)) long (r .judged) in
-      stored-says cells (outcomeOf true file) e before a after (subst (λ (o : Outcome). Leaves o before a after) (sym (is-judged true file (r .outcome) j)) (r .leaves)),
-  reads-some file before,
-)
+tested (stores file cells) e = always file (HoldsCells cells) (stored-says cells (outcomeOf true file) e)
 tested (rewrites file bytes) e = go (outcomeOf true file) refl e
   where
     go : (o : Outcome) → outcomeOf true file ≡ o → isWritten bytes o ≡ true → OfSpelled file (λ t. written cr t ≡ bytes)

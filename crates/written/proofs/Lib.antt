@@ -1,0 +1,4 @@
+pub mod Laid
+pub mod Numbers
+pub mod Heads
+pub mod PlayerLines
