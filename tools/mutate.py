@@ -131,7 +131,7 @@ CHANGES = [
     ("Entries", " || isOneOf (b ∷ a ∷ []) fittingPairs", ""),
     ("Entries", "any (hasU r) (take place (t .players))", "any (hasU r) (t .players)"),
     ("Entries", 'ascii "1W+F"', 'ascii "1WF"'),
-    ("Entries", '(among result (ascii "-Z")) (s .absent)', '(among result (ascii "-Z+")) (s .absent)'),
+    ("Entries", '(among result (ascii "-Z")) (s .absent)', '(among result (ascii "Z")) (s .absent)'),
     ("Entries", '(ascii "0L")) (s .loss)', '(ascii "0L")) (s .absent)'),
     ("Entries", '(ascii "U")) (s .pairing)', '(ascii "U")) (s .win)'),
     ("Entries", '(ascii "=DH")) (s .draw)', '(ascii "=H")) (s .draw)'),

@@ -2,3 +2,4 @@ pub mod Laid
 pub mod Numbers
 pub mod Heads
 pub mod PlayerLines
+pub mod Spelled
