@@ -3,3 +3,5 @@ pub mod Numbers
 pub mod Heads
 pub mod PlayerLines
 pub mod Spelled
+pub mod Lengths
+pub mod Readings

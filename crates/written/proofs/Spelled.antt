@@ -34,7 +34,7 @@ all-at : {A : Type 0} (P : A → Type 0) (d : A) (l : List A) → ((k : ℕ) →
 all-at P d [] h = tt
 all-at P d (x ∷ l) h = (h 0 (omega arith), all-at P d l (λ k m. h (suc k) (omega arith)))
 
-entries-good : (t : Tournament) → Lawful t → AllOf (λ (p : Player). AllOf GoodEntry (p .entries)) (t .players)
+pub entries-good : (t : Tournament) → Lawful t → AllOf (λ (p : Player). AllOf GoodEntry (p .entries)) (t .players)
 unfolding keeps
 entries-good t h = all-at (λ (p : Player). AllOf GoodEntry (p .entries)) noPlayer (t .players) (λ p l.
     all-at GoodEntry noEntry (playerAt t p .entries) (λ r m.
@@ -66,11 +66,11 @@ good-map : {A : Type 0} (P : A → Type 0) (line : A → List ℕ) (i : A → It
 good-map P line i f [] h = tt
 good-map P line i f (a ∷ l) h = (f a (h .0), good-map P line i f l (h .1))
 
-all-and : {A : Type 0} (P Q : A → Type 0) (l : List A) → AllOf P l → AllOf Q l → AllOf (λ a. P a × Q a) l
+pub all-and : {A : Type 0} (P Q : A → Type 0) (l : List A) → AllOf P l → AllOf Q l → AllOf (λ a. P a × Q a) l
 all-and P Q [] h k = tt
 all-and P Q (a ∷ l) h k = ((h .0, k .0), all-and P Q l (h .1) (k .1))
 
-of-all : {A : Type 0} (f : A → Bool) (l : List A) → all f l ≡ true → AllOf (λ a. f a ≡ true) l
+pub of-all : {A : Type 0} (f : A → Bool) (l : List A) → all f l ≡ true → AllOf (λ a. f a ≡ true) l
 of-all f [] h = tt
 of-all f (a ∷ l) h = let k = and (f a) (all f l) h in (k .0, of-all f l (k .1))
 
