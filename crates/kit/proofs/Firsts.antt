@@ -1,15 +1,18 @@
 -- The first of which a proposition holds is one at most, with no decision; where a test decides the proposition, `first` finds it. Assumes nothing.
 use mathlib.Core.Path.{_≡_, refl, sym, ap, _∙_, subst}
 use mathlib.Core.Logic.{_⊎_, inl, inr}
-use mathlib.Core.Bool.{Bool, true, false, cond}
+use mathlib.Core.Bool.{Bool, true, false, cond, _||_}
 use mathlib.Core.Option.{Option, none, some}
 use mathlib.Core.List.{List, [], _∷_, _++_, append-assoc, map}
 use Prim.Native.Nat.{ℕ, zero, suc, _<_}
 use lib.ListN.{length, getD}
 use native.Mathlib.Omega.{arith}
-use Rattle.kit.specs.Lists.{first, flat}
+use lib.Dec.{eqb}
+use borrow.Author.Tests.{eqb-true}
+use Rattle.kit.specs.Lists.{among, first, flat}
 use Rattle.kit.specs.First.{AllOf, NoneOf, FirstIn}
 use Rattle.kit.specs.Decides.{Decides, Tests, orElse, to}
+use Rattle.kit.proofs.Bools.{clash}
 use Rattle.kit.proofs.Decided.{fails, failed}
 
 -- ---- all of a list
@@ -52,6 +55,20 @@ pub all-of-at : {L : Type 0} (P : L → Type 0) (d : L) (l : List L) → AllOf P
 all-of-at P d [] h k m = absurd (omega arith)
 all-of-at P d (x ∷ l) h zero m = h .0
 all-of-at P d (x ∷ l) h (suc k) m = all-of-at P d l (h .1) k (omega arith)
+
+-- a list of things that are told apart by a number: what holds of all of it holds of each that stands in it, in whatever order
+module _ {A : Type 0} (number : A → ℕ) (back : ℕ → A) (again : (a : A) → back (number a) ≡ a) (P : A → Type 0) where
+  pub all-in : (l : List A) → AllOf P l → (a : A) → among (number a) (map number l) ≡ true → P a
+  all-in [] h a e = clash e
+  all-in (x ∷ l) h a e = go (eqb (number a) (number x)) refl e (all-in l (h .1) a)
+    where
+      go : (b : Bool) → eqb (number a) (number x) ≡ b → b || among (number a) (map number l) ≡ true → (among (number a) (map number l) ≡ true → P a) → P a
+      go true p q ih = subst P (sym (sym (again a) ∙ ap back (eqb-true (number a) (number x) p) ∙ again x)) (h .0)
+      go false p q ih = ih q
+
+pub all-every : {A : Type 0} (P : A → Type 0) → ((a : A) → P a) → (l : List A) → AllOf P l
+all-every P h [] = tt
+all-every P h (x ∷ l) = (h x, all-every P h l)
 
 module _ {L : Type 0} (P : L → Type 0) where
   -- ---- one at most

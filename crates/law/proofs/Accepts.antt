@@ -2,16 +2,16 @@
 use mathlib.Core.Path.{_≡_, refl, sym, ap, _∙_, subst}
 use mathlib.Core.Bool.{Bool, true, false, _&&_, _||_, not}
 use mathlib.Core.List.{List, [], _∷_, _++_, map}
-use Prim.Native.Nat.{ℕ, _≤_, _<_}
+use Prim.Native.Nat.{ℕ, _-_, _≤_, _<_}
 use native.Mathlib.Omega.{arith}
 use lib.Dec.{eqb, leb}
-use lib.ListN.{length, length-map}
-use borrow.Author.Tests.{le-leb, not-true, not-false}
+use lib.ListN.{length, getD, length-map}
+use borrow.Author.Tests.{le-leb, leb-true, not-true, not-false}
 use Rattle.kit.specs.Lists.{all, any, among, isEmpty, atMostOne, flat, Each, onlyOr}
 use Rattle.kit.specs.First.{AllOf, NoneOf}
 use Rattle.kit.proofs.Bools.{clash, and, both, not-so}
 use Rattle.kit.proofs.Decided.{unique}
-use Rattle.kit.proofs.Firsts.{all-of-append, all-of-left, all-of-right, all-of-map, map-all-of, all-of-each}
+use Rattle.kit.proofs.Firsts.{all-of-append, all-of-left, all-of-right, all-of-map, all-of-flat, flat-all-of, all-of-each, all-in, all-every}
 use Rattle.types.specs.declared.Acceleration.{Acceleration}
 use Rattle.law.specs.Sizes.{mostFile, mostRounds}
 use Rattle.law.specs.Lines.{Line, Lines}
@@ -25,11 +25,11 @@ use Rattle.law.specs.Tournament.{Player, Tournament, roundsIn, colourIn,
 use Rattle.law.specs.Entries.{Law, bye-or-game, mutual-pairing, fitting-results, one-U, keeps, statesSum}
 use Rattle.law.specs.Lawful.{LawfulPlayer, Sits, sharesEarlier, Lawful}
 use Rattle.law.specs.Spelling.{isSound, SpellsLine, isPast, SpellsFile}
-use Rattle.law.specs.Refusals.{Seat, linesOf, seatsFrom, playerSeats, accelerationSeats, Label, incomplete, past-142, shared, unlawful, wrong-sum, isComplete, isFileFault, FileFault, IsFault, lineLabels, eachRound, fileLabels, labels}
+use Rattle.law.specs.Refusals.{linesOf, playerSeats, accelerationSeats, FileFault, incomplete, past-142, shared, unlawful, wrong-sum, fileFaults, isComplete, isFileFault, OfItems, Label, of-file, IsFault, fileNumber, lineLabels, labelsOf, labels}
 use Rattle.law.proofs.Cut.{one-lines}
 use Rattle.law.proofs.Faults.{lines-spelled}
 use Rattle.law.proofs.LinesRead.{LinesGood, lines-good, good-lines}
-use Rattle.law.proofs.Seats.{player-lines, acceleration-lines, seat, seats-all, all-seats, rounds-all, all-rounds}
+use Rattle.law.proofs.Seats.{player-lines, acceleration-lines, seat, rounds-all, all-rounds, places-all, all-places}
 use Rattle.law.proofs.LinesLawful.{Small, scoring-small, LawfulLine, lawful-player, texts-fine, colours-fine, scorings-fine, accelerations-fine, players-fine, rounds-small}
 use Rattle.law.proofs.NewAndFew.{Once, new-once, once-new, differ-same, AllFit, few-fits, fits-few}
 
@@ -41,15 +41,39 @@ pub record FileGood (is : List Item) : Type 0 where
   pub keep : (law : Law) (p r : ℕ) → p < length (flat playerIn is) → 1 ≤ r → r ≤ tournamentOf is .rounds → keeps (tournamentOf is) law p r ≡ true
   pub sums : (p : ℕ) → p < length (flat playerIn is) → statesSum (tournamentOf is) p ≡ true
 
+-- the faults of the file are told apart by their numbers, and each is tested
+abbrev fileFaultAt : ℕ → FileFault
+fileFaultAt n = getD (incomplete ∷ past-142 ∷ unlawful bye-or-game ∷ unlawful mutual-pairing ∷ unlawful fitting-results ∷ unlawful one-U ∷ wrong-sum ∷ shared ∷ []) (n - 10) incomplete
+
+fault-again : (f : FileFault) → fileFaultAt (fileNumber f) ≡ f
+fault-again incomplete = refl
+fault-again past-142 = refl
+fault-again shared = refl
+fault-again (unlawful bye-or-game) = refl
+fault-again (unlawful mutual-pairing) = refl
+fault-again (unlawful fitting-results) = refl
+fault-again (unlawful one-U) = refl
+fault-again wrong-sum = refl
+
+pub tested-file : (f : FileFault) → among (fileNumber f) (map fileNumber fileFaults) ≡ true
+tested-file incomplete = refl
+tested-file past-142 = refl
+tested-file shared = refl
+tested-file (unlawful bye-or-game) = refl
+tested-file (unlawful mutual-pairing) = refl
+tested-file (unlawful fitting-results) = refl
+tested-file (unlawful one-U) = refl
+tested-file wrong-sum = refl
+
 module _ (ls : List Line) (is : List Item) (h : Each SpellsLine ls is) where
   -- of known items the fault is the test
-  file-not : (x : Label) → (FileFault ls x → ⊥) → isFileFault is x ≡ false
-  file-not x n = not-so (isFileFault is x) (λ t. n (record { items = is; spelled = h; holds = t }))
+  file-not : (f : FileFault) (place r : ℕ) → (OfItems ls f place r → ⊥) → isFileFault is f place r ≡ false
+  file-not f place r n = not-so (isFileFault is f place r) (λ t. n (record { items = is; spelled = h; holds = t }))
 
-  not-file : (x : Label) → isFileFault is x ≡ false → FileFault ls x → ⊥
-  not-file x e f =
-      let u = unique lines-spelled ls is (f .items) h (f .spelled) in
-      clash (sym e ∙ rw u (f .holds))
+  not-file : (f : FileFault) (place r : ℕ) → isFileFault is f place r ≡ false → OfItems ls f place r → ⊥
+  not-file f place r e q =
+      let u = unique lines-spelled ls is (q .items) h (q .spelled) in
+      clash (sym e ∙ rw u (q .holds))
 
   module _ (long : Bool) (file : List ℕ) (small : roundsOf is ≤ mostRounds) where
     abbrev Not : Label → Type 0
@@ -58,73 +82,43 @@ module _ (ls : List Line) (is : List Item) (h : Each SpellsLine ls is) where
     abbrev ps : List ℕ
     ps = linesOf playerCode 0 ls
 
-    abbrev as′ : List ℕ
-    as′ = linesOf accelerationCode 0 ls
+    abbrev rs : List ℕ
+    rs = linesOf accelerationCode 0 ls
 
-    abbrev FileNone : Type 0
-    FileNone = NoneOf (IsFault long file ls) (fileLabels (playerSeats ls) (accelerationSeats ls))
+    abbrev of : FileFault → List Label
+    of = labelsOf (playerSeats ls) (accelerationSeats ls)
 
-    pub file-good : FileNone → FileGood is
+    pub file-good : AllOf Not (flat of fileFaults) → FileGood is
     unfolding isFileFault tournamentOf
     file-good n =
         let np = player-lines ls is h in
         let na = acceleration-lines ls is h in
-        let s11 = all-of-left Not (eachRound past-142 (playerSeats ls)) _ (n .1) in
-        let r11 = all-of-right Not (eachRound past-142 (playerSeats ls)) _ (n .1) in
-        let s17 = all-of-left Not (map shared (accelerationSeats ls)) _ r11 in
-        let r17 = all-of-right Not (map shared (accelerationSeats ls)) _ r11 in
-        let s12 = all-of-left Not (eachRound (unlawful bye-or-game) (playerSeats ls)) _ r17 in
-        let r12 = all-of-right Not (eachRound (unlawful bye-or-game) (playerSeats ls)) _ r17 in
-        let s13 = all-of-left Not (eachRound (unlawful mutual-pairing) (playerSeats ls)) _ r12 in
-        let r13 = all-of-right Not (eachRound (unlawful mutual-pairing) (playerSeats ls)) _ r12 in
-        let s14 = all-of-left Not (eachRound (unlawful fitting-results) (playerSeats ls)) _ r13 in
-        let r14 = all-of-right Not (eachRound (unlawful fitting-results) (playerSeats ls)) _ r13 in
-        let s15 = all-of-left Not (eachRound (unlawful one-U) (playerSeats ls)) (map wrong-sum (playerSeats ls)) r14 in
-        let s16 = all-of-right Not (eachRound (unlawful one-U) (playerSeats ls)) (map wrong-sum (playerSeats ls)) r14 in
+        let at = all-in fileNumber fileFaultAt fault-again (λ f. AllOf Not (of f)) fileFaults (flat-all-of Not of fileFaults n) in
         record {
-          complete = not-false (isComplete (tournamentOf is)) (file-not incomplete (n .0));
-          none-past = λ p r l a b. file-not (past-142 (seat p ps) r) (rounds-all Not past-142 ps s11 p r (omega arith) a b);
-          apart = λ j l. file-not (shared (seat j as′)) (seats-all (λ s. Not (shared s)) as′ (map-all-of Not shared (seatsFrom 0 as′) s17) j (omega arith));
-          keep = λ law p r l a b. kept law p r a b (rounds law s12 s13 s14 s15 p r (omega arith) a (omega arith));
-          sums = λ p l. not-false (statesSum (tournamentOf is) p) (file-not (wrong-sum (seat p ps)) (seats-all (λ s. Not (wrong-sum s)) ps (map-all-of Not wrong-sum (seatsFrom 0 ps) s16) p (omega arith)));
+          complete = not-false (isComplete (tournamentOf is)) (file-not incomplete 0 0 (at incomplete (tested-file incomplete) .0));
+          none-past = λ p r l a b. file-not past-142 p r (rounds-all Not past-142 ps (at past-142 (tested-file past-142)) p r (omega arith) a b);
+          apart = λ j l. file-not shared j 0 (places-all Not shared rs (at shared (tested-file shared)) j (omega arith));
+          keep = λ law p r l a b. kept law p r b (rounds-all Not (unlawful law) ps (at (unlawful law) (tested-file (unlawful law))) p r (omega arith) a (omega arith));
+          sums = λ p l. not-false (statesSum (tournamentOf is) p) (file-not wrong-sum p 0 (places-all Not wrong-sum ps (at wrong-sum (tested-file wrong-sum)) p (omega arith)));
         }
       where
-        rounds : (law : Law) → AllOf Not (eachRound (unlawful bye-or-game) (playerSeats ls)) → AllOf Not (eachRound (unlawful mutual-pairing) (playerSeats ls))
-            → AllOf Not (eachRound (unlawful fitting-results) (playerSeats ls)) → AllOf Not (eachRound (unlawful one-U) (playerSeats ls))
-            → (p r : ℕ) → p < length ps → 1 ≤ r → r ≤ mostRounds → Not (unlawful law (seat p ps) r)
-        rounds bye-or-game a b c d = rounds-all Not (unlawful bye-or-game) ps a
-        rounds mutual-pairing a b c d = rounds-all Not (unlawful mutual-pairing) ps b
-        rounds fitting-results a b c d = rounds-all Not (unlawful fitting-results) ps c
-        rounds one-U a b c d = rounds-all Not (unlawful one-U) ps d
+        kept : (law : Law) (p r : ℕ) → r ≤ tournamentOf is .rounds → Not (of-file (unlawful law) (seat p ps) r) → keeps (tournamentOf is) law p r ≡ true
+        kept law p r b n = not-false (keeps (tournamentOf is) law p r) (rw (le-leb r (tournamentOf is .rounds) b) at (file-not (unlawful law) p r n))
 
-        kept : (law : Law) (p r : ℕ) → 1 ≤ r → r ≤ tournamentOf is .rounds → Not (unlawful law (seat p ps) r) → keeps (tournamentOf is) law p r ≡ true
-        kept law p r a b n =
-            let e = file-not (unlawful law (seat p ps) r) n in
-            not-false (keeps (tournamentOf is) law p r) (rw (le-leb r (tournamentOf is .rounds) b) at e)
-
-    pub good-file : FileGood is → FileNone
+    pub good-file : FileGood is → AllOf Not (flat of fileFaults)
     unfolding isFileFault
-    good-file g =
-        let np = player-lines ls is h in
-        let na = acceleration-lines ls is h in (
-          not-file incomplete (ap not (g .complete)),
-          all-of-append Not (eachRound past-142 (playerSeats ls)) _
-              (all-rounds Not past-142 ps (λ p r l a b. not-file (past-142 (seat p ps) r) (g .none-past p r (omega arith) a b)))
-              (all-of-append Not (map shared (accelerationSeats ls)) _
-              (all-of-map Not shared (accelerationSeats ls) (all-seats (λ s. Not (shared s)) as′ (λ j l. not-file (shared (seat j as′)) (g .apart j (omega arith)))))
-              (all-of-append Not (eachRound (unlawful bye-or-game) (playerSeats ls)) _ (rounds bye-or-game np)
-              (all-of-append Not (eachRound (unlawful mutual-pairing) (playerSeats ls)) _ (rounds mutual-pairing np)
-              (all-of-append Not (eachRound (unlawful fitting-results) (playerSeats ls)) _ (rounds fitting-results np)
-              (all-of-append Not (eachRound (unlawful one-U) (playerSeats ls)) (map wrong-sum (playerSeats ls)) (rounds one-U np)
-              (all-of-map Not wrong-sum (playerSeats ls) (all-seats (λ s. Not (wrong-sum s)) ps (λ p l. not-file (wrong-sum (seat p ps)) (ap not (g .sums p (omega arith))))))))))),
-        )
+    good-file g = all-of-flat Not of fileFaults (all-every (λ f. AllOf Not (of f)) (at (player-lines ls is h) (acceleration-lines ls is h)) fileFaults)
       where
         law-not : (law : Law) (p r : ℕ) → p < length (flat playerIn is) → 1 ≤ r → (b : Bool) → leb r (tournamentOf is .rounds) ≡ b → b && not (keeps (tournamentOf is) law p r) ≡ false
         law-not law p r l a false e = refl
-        law-not law p r l a true e = ap not (g .keep law p r l a (borrow.Author.Tests.leb-true r (tournamentOf is .rounds) e))
+        law-not law p r l a true e = ap not (g .keep law p r l a (leb-true r (tournamentOf is .rounds) e))
 
-        rounds : (law : Law) → length ps ≡ length (flat playerIn is) → AllOf Not (eachRound (unlawful law) (playerSeats ls))
-        rounds law np = all-rounds Not (unlawful law) ps (λ p r l a b. not-file (unlawful law (seat p ps) r) (law-not law p r (omega arith) a (leb r (tournamentOf is .rounds)) refl))
+        at : length ps ≡ length (flat playerIn is) → length rs ≡ length (flat accelerationIn is) → (f : FileFault) → AllOf Not (of f)
+        at np na incomplete = (not-file incomplete 0 0 (ap not (g .complete)), tt)
+        at np na past-142 = all-rounds Not past-142 ps (λ p r l a b. not-file past-142 p r (g .none-past p r (omega arith) a b))
+        at np na shared = all-places Not shared rs (λ j l. not-file shared j 0 (g .apart j (omega arith)))
+        at np na (unlawful law) = all-rounds Not (unlawful law) ps (λ p r l a b. not-file (unlawful law) p r (law-not law p r (omega arith) a (leb r (tournamentOf is .rounds)) refl))
+        at np na wrong-sum = all-places Not wrong-sum ps (λ p l. not-file wrong-sum p 0 (ap not (g .sums p (omega arith))))
 
 -- ---- lines and file together: the tournament that they say is spelled and lawful
 abbrev all-true : {A : Type 0} → (A → Bool) → List A → Type 0
@@ -146,13 +140,13 @@ module _ (ls : List Line) (is : List Item) (l : LinesGood [] ls is) (g : FileGoo
       record {
         text = texts-fine ls is (l .sound) (l .spelled);
         text-once = o .text;
-        text-fits = f .text;
+        text-fits = let q = f .text in omega arith;
         named = c .0;
         rounds = r;
         colour = known (flat colourIn is) (colours-fine ls is (l .sound) (l .spelled));
         scoring = worth (flat scoringIn is) (scorings-fine ls is (l .sound) (l .spelled));
         accelerations = all-of-true isAcceleration (flat accelerationIn is) (accelerations-fine ls is (l .sound) (l .spelled));
-        accelerations-fit = f .accelerations;
+        accelerations-fit = let q = f .accelerations in omega arith;
         accelerations-apart = g .apart;
         players = all-of-map (LawfulPlayer (roundsOf is)) (playerOf (roundsOf is)) (flat playerIn is) (all-of-each LawfulLine (λ p. LawfulPlayer (roundsOf is) (playerOf (roundsOf is) p)) (λ p. lawful-player (roundsOf is) p r) (flat playerIn is) (players-fine ls is (l .sound) (l .spelled)));
         players-there = not-true (isEmpty (map (playerOf (roundsOf is)) (flat playerIn is))) (c .1);
@@ -201,7 +195,7 @@ lawful-lines file t s k =
       sound = s .sound;
       spelled = s .spelled;
       new = once-new is (record { text = v .text-once; rounds = b .0; colour = b .1; scoring = a .1; players = sym (differ-same (roundsOf is) (flat playerIn is)) ∙ v .players-differ });
-      few = fits-few is (record { text = v .text-fits; accelerations = v .accelerations-fit; players = let q = v .players-fit in omega arith });
+      few = fits-few is (record { text = let q = v .text-fits in omega arith; accelerations = let q = v .accelerations-fit in omega arith; players = let q = v .players-fit in omega arith });
     }
 
 lawful-file : (file : List ℕ) (t : Tournament) (s : SpellsFile file t) → Lawful t → FileGood (s .items)
@@ -228,8 +222,8 @@ module _ (file : List ℕ) (ls : List Line) (are : Lines file ls) where
   unfolding labels
   no-fault-lawful long n =
       let both-parts = n .1 .1 in
-      let top = all-of-left (λ x. IsFault long file ls x → ⊥) (lineLabels [] ls) (fileLabels (playerSeats ls) (accelerationSeats ls)) both-parts in
-      let rest = all-of-right (λ x. IsFault long file ls x → ⊥) (lineLabels [] ls) (fileLabels (playerSeats ls) (accelerationSeats ls)) both-parts in
+      let top = all-of-left (λ x. IsFault long file ls x → ⊥) (lineLabels [] ls) (flat (labelsOf (playerSeats ls) (accelerationSeats ls)) fileFaults) both-parts in
+      let rest = all-of-right (λ x. IsFault long file ls x → ⊥) (lineLabels [] ls) (flat (labelsOf (playerSeats ls) (accelerationSeats ls)) fileFaults) both-parts in
       let k = lines-good long file ls ls [] [] tt top in
       let l = k .1 in
       let g = file-good ls (k .0) (l .spelled) long file (rounds-small ls (k .0) (l .sound) (l .spelled)) rest in
@@ -245,7 +239,7 @@ module _ (file : List ℕ) (ls : List Line) (are : Lines file ls) where
         λ q. clash (sym q),
         (
           λ q. omega arith,
-          all-of-append (λ x. IsFault true file ls x → ⊥) (lineLabels [] ls) (fileLabels (playerSeats ls) (accelerationSeats ls))
+          all-of-append (λ x. IsFault true file ls x → ⊥) (lineLabels [] ls) (flat (labelsOf (playerSeats ls) (accelerationSeats ls)) fileFaults)
               (good-lines true file ls ls [] [] (s .items) tt l)
               (good-file ls (s .items) (l .spelled) true file (rounds-small ls (s .items) (l .sound) (l .spelled)) g),
         ),

@@ -16,7 +16,7 @@ use Rattle.law.specs.Lines.{allowed, Line, isEnded}
 use Rattle.law.specs.Columns.{rowOf}
 use Rattle.law.specs.Items.{Item, Kind, passed-over, kept-text, 142-record, 152-record, 162-record, 250-record, 001-record, unlisted, kindOf}
 use Rattle.law.specs.Spelling.{SpellsLine}
-use Rattle.law.specs.Refusals.{LineFault, bad-byte, no-CR, too-long, not-listed, bad-field, again, too-many, isAgain, isTooMany, After, IsLineFault, Label, too-short, too-big, at-line, incomplete, past-142, shared, unlawful, wrong-sum, isFileFault, FileFault, IsFault}
+use Rattle.law.specs.Refusals.{LineFault, bad-byte, no-CR, too-long, not-listed, bad-field, again, too-many, isAgain, isTooMany, After, IsLineFault, FileFault, isFileFault, OfItems, Label, too-short, too-big, at-line, of-file, IsFault}
 use Rattle.law.proofs.RecordsRead.{itemOf, item}
 
 -- ---- what the lines spell
@@ -57,20 +57,16 @@ testLine bad-field before l = not (isSome (lineItem l))
 testLine again before l = testAfter isAgain (lineItems before) (lineItem l)
 testLine too-many before l = testAfter isTooMany (lineItems before) (lineItem l)
 
-abbrev pub testFile : Option (List Item) → Label → Bool
-testFile none x = false
-testFile (some is) x = isFileFault is x
+abbrev pub testFile : Option (List Item) → FileFault → ℕ → ℕ → Bool
+testFile none f place r = false
+testFile (some is) f place r = isFileFault is f place r
 
 -- o: what all lines spell
 abbrev pub testLabel : Bool → ℕ → Option (List Item) → Label → Bool
 testLabel long n o too-short = not long
 testLabel long n o too-big = ltb mostFile n
 testLabel long n o (at-line f before l) = testLine f before l
-testLabel long n o incomplete = testFile o incomplete
-testLabel long n o (past-142 s r) = testFile o (past-142 s r)
-testLabel long n o (shared s) = testFile o (shared s)
-testLabel long n o (unlawful law s r) = testFile o (unlawful law s r)
-testLabel long n o (wrong-sum s) = testFile o (wrong-sum s)
+testLabel long n o (of-file f s r) = testFile o f (s .place) r
 
 -- ---- they decide the faults
 unlisted-is : (k : Kind) → isUnlisted k ≡ true → k ≡ unlisted
@@ -113,15 +109,15 @@ line-complete bad-field before l h = unspelled line .complete l h
 line-complete again before l h = after-complete isAgain before l h
 line-complete too-many before l h = after-complete isTooMany before l h
 
-file-sound : (ls : List Line) (x : Label) → testFile (lineItems ls) x ≡ true → FileFault ls x
-file-sound ls x e = go (lineItems ls) refl e
+file-sound : (ls : List Line) (f : FileFault) (place r : ℕ) → testFile (lineItems ls) f place r ≡ true → OfItems ls f place r
+file-sound ls f place r e = go (lineItems ls) refl e
   where
-    go : (o : Option (List Item)) → lineItems ls ≡ o → testFile o x ≡ true → FileFault ls x
+    go : (o : Option (List Item)) → lineItems ls ≡ o → testFile o f place r ≡ true → OfItems ls f place r
     go none a e = clash e
     go (some is) a e = record { items = is; spelled = lines-spelled .sound ls is a; holds = e }
 
-file-complete : (ls : List Line) (x : Label) → FileFault ls x → testFile (lineItems ls) x ≡ true
-file-complete ls x h = rw (lines-spelled .complete ls (h .items) (h .spelled)) (h .holds)
+file-complete : (ls : List Line) (f : FileFault) (place r : ℕ) → OfItems ls f place r → testFile (lineItems ls) f place r ≡ true
+file-complete ls f place r h = rw (lines-spelled .complete ls (h .items) (h .spelled)) (h .holds)
 
 module _ (long : Bool) (file : List ℕ) (ls : List Line) where
   abbrev pub isFault : Label → Bool
@@ -131,21 +127,13 @@ module _ (long : Bool) (file : List ℕ) (ls : List Line) where
   label-sound too-short e = not-true long e
   label-sound too-big e = ltb-true mostFile (length file) e
   label-sound (at-line f before l) e = line-sound f before l e
-  label-sound incomplete e = file-sound ls incomplete e
-  label-sound (past-142 s r) e = file-sound ls (past-142 s r) e
-  label-sound (shared s) e = file-sound ls (shared s) e
-  label-sound (unlawful law s r) e = file-sound ls (unlawful law s r) e
-  label-sound (wrong-sum s) e = file-sound ls (wrong-sum s) e
+  label-sound (of-file f s r) e = file-sound ls f (s .place) r e
 
   label-complete : (x : Label) → IsFault long file ls x → isFault x ≡ true
   label-complete too-short h = ap not h
   label-complete too-big h = lt-ltb mostFile (length file) h
   label-complete (at-line f before l) h = line-complete f before l h
-  label-complete incomplete h = file-complete ls incomplete h
-  label-complete (past-142 s r) h = file-complete ls (past-142 s r) h
-  label-complete (shared s) h = file-complete ls (shared s) h
-  label-complete (unlawful law s r) h = file-complete ls (unlawful law s r) h
-  label-complete (wrong-sum s) h = file-complete ls (wrong-sum s) h
+  label-complete (of-file f s r) h = file-complete ls f (s .place) r h
 
   -- every label's fault is decided by its test
   pub faults : Tests (IsFault long file ls) isFault

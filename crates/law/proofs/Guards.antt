@@ -98,6 +98,19 @@ onceRows =
     refuses (cup ++ (line "142 1" ++ person "   1" " 0.0" "   1" ((92, "0000 - Z  0000 - Z") ∷ []))) 11 3 2 ∷
     refuses (cup ++ (line "142 0" ++ person "   1" " 0.0" "   1" ((109, "Z") ∷ (119, "Z") ∷ []))) 11 3 2 ∷ []
 
+-- ---- text up to 2,048 bytes: 8 + 3 * 513 + 501; then 8 before 9
+unfoldable pub note : ℕ → List ℕ
+note n = ascii "112 " ++ (replicate n 120 ++ (13 ∷ []))
+
+unfoldable pub fullText : List ℕ
+fullText = cup ++ (note 508 ++ (note 508 ++ (note 508 ++ note 496)))
+
+unfoldable pub fullRows : List Row
+fullRows =
+    refuses fullText 10 0 0 ∷
+    refuses (fullText ++ line "112") 9 6 0 ∷
+    refuses (fullText ++ cup) 8 6 0 ∷ []
+
 -- ---- a round's entry
 unfoldable pub entryRows : List Row
 entryRows =
@@ -228,11 +241,11 @@ playerRows =
 
 unfoldable pub guardRows : List Row
 guardRows =
-    lineRows ++ (onceRows ++ (entryRows ++ (worthRows ++ (tableRows ++ (writerRows ++ (map (λ s. spells (ascii s)) right ++ (map (λ s. spells-nothing (ascii s)) wrong ++ playerRows)))))))
+    lineRows ++ (onceRows ++ (fullRows ++ (entryRows ++ (worthRows ++ (tableRows ++ (writerRows ++ (map (λ s. spells (ascii s)) right ++ (map (λ s. spells-nothing (ascii s)) wrong ++ playerRows))))))))
 
 -- ---- computed
 computed : all test guardRows ≡ true
-unfolding guardRows lineRows onceRows entryRows worthRows tableRows writerRows right wrong playerRows event scoring two alone crlf-line rowWith keptRow person put line cup roe poe sampleT test cells flat top scoringOf shares covers kindOf normal usedRounds roundsOf tournamentOf isBye isGame fits keeps worth earned isPast contentOf answerOf isAgain isTooMany linesOf isFileFault labels writtenLines written earnedBefore accelerationFor itemOf outcomeOf
+unfolding guardRows lineRows onceRows fullRows fullText note entryRows worthRows tableRows writerRows right wrong playerRows event scoring two alone crlf-line rowWith keptRow person put line cup roe poe sampleT test cells flat top scoringOf shares covers kindOf normal usedRounds roundsOf tournamentOf isBye isGame fits keeps worth earned isPast contentOf answerOf isAgain isTooMany linesOf isFileFault labels writtenLines written earnedBefore accelerationFor itemOf outcomeOf
 computed = refl
 
 pub guarded : AllOf RowHolds guardRows

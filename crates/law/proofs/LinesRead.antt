@@ -3,23 +3,23 @@ use mathlib.Core.Path.{_≡_, refl, sym, ap, _∙_, subst}
 use mathlib.Core.Bool.{Bool, true, false, _&&_, not}
 use mathlib.Core.Option.{Option, none, some}
 use mathlib.Core.List.{List, [], _∷_, _++_, map}
-use Prim.Native.Nat.{ℕ, _≤_, _<_}
+use Prim.Native.Nat.{ℕ, _-_, _≤_, _<_}
 use native.Mathlib.Omega.{arith}
 use lib.Dec.{leb}
-use lib.ListN.{length}
+use lib.ListN.{length, getD}
 use borrow.Author.Tests.{leb-true, le-leb, leb-false}
-use Rattle.kit.specs.Lists.{all, eachAfter, Each}
-use Rattle.kit.specs.First.{AllOf, NoneOf}
+use Rattle.kit.specs.Lists.{all, among, eachAfter, Each}
+use Rattle.kit.specs.First.{AllOf}
 use Rattle.kit.specs.Decides.{Decides}
 use Rattle.kit.proofs.Bools.{clash, and, both, not-so, is-so}
 use Rattle.kit.proofs.Decided.{unique, refused}
-use Rattle.kit.proofs.Firsts.{all-of-append, all-of-left, all-of-right}
+use Rattle.kit.proofs.Firsts.{all-of-append, all-of-left, all-of-right, all-of-map, map-all-of, all-in, all-every}
 use Rattle.law.specs.Sizes.{mostLine}
 use Rattle.law.specs.Lines.{allowed, Line, isEnded}
 use Rattle.law.specs.Columns.{rowOf}
 use Rattle.law.specs.Items.{Item, passed, text, rounds, colour, scoring, acceleration, player, Kind, passed-over, kept-text, 142-record, 152-record, 162-record, 250-record, 001-record, unlisted, kindOf, SpellsItem}
 use Rattle.law.specs.Spelling.{isSound, SpellsLine}
-use Rattle.law.specs.Refusals.{LineFault, lineFaults, isAgain, isTooMany, After, IsFault, at-line, lineLabels}
+use Rattle.law.specs.Refusals.{LineFault, bad-byte, no-CR, too-long, not-listed, bad-field, again, too-many, lineFaults, isAgain, isTooMany, After, IsLineFault, Label, at-line, IsFault, lineNumber, lineLabels}
 use Rattle.law.proofs.Faults.{lineItem, line, lines-spelled, isUnlisted}
 
 abbrev pub isNew : List Item → Item → Bool
@@ -65,29 +65,60 @@ module _ (so : List Item → Item → Bool) (before : List Line) (e : List Item)
   pub not-after : not (so e i) ≡ true → After so before l → ⊥
   not-after t h = clash (sym (ap not (after-known h)) ∙ t)
 
+-- ---- the seven faults of a line are told apart by their numbers, and each is tested
+abbrev faultAt : ℕ → LineFault
+faultAt n = getD (bad-byte ∷ no-CR ∷ too-long ∷ not-listed ∷ bad-field ∷ again ∷ too-many ∷ []) (n - 3) bad-byte
+
+fault-again : (f : LineFault) → faultAt (lineNumber f) ≡ f
+fault-again bad-byte = refl
+fault-again no-CR = refl
+fault-again too-long = refl
+fault-again not-listed = refl
+fault-again bad-field = refl
+fault-again again = refl
+fault-again too-many = refl
+
+pub tested-line : (f : LineFault) → among (lineNumber f) (map lineNumber lineFaults) ≡ true
+tested-line bad-byte = refl
+tested-line no-CR = refl
+tested-line too-long = refl
+tested-line not-listed = refl
+tested-line bad-field = refl
+tested-line again = refl
+tested-line too-many = refl
+
 module _ (long : Bool) (file : List ℕ) (lines : List Line) where
+  abbrev Not : Label → Type 0
+  Not x = IsFault long file lines x → ⊥
+
   abbrev NoFault : List Line → List Line → Type 0
-  NoFault before ls = NoneOf (IsFault long file lines) (lineLabels before ls)
+  NoFault before ls = AllOf Not (lineLabels before ls)
+
+  none-here : (before : List Line) (l : Line) → AllOf Not (map (λ f. at-line f before l) lineFaults) → (f : LineFault) → IsLineFault f before l → ⊥
+  none-here before l h f = all-in lineNumber faultAt fault-again (λ f. IsLineFault f before l → ⊥) lineFaults (map-all-of Not (λ f. at-line f before l) lineFaults h) f (tested-line f)
 
   pub lines-good : (ls before : List Line) (e : List Item) → Each SpellsLine before e → NoFault before ls → (is : List Item) × LinesGood e ls is
   lines-good [] before e he h = ([], record { sound = refl; spelled = tt; new = refl; few = refl })
-  lines-good (l ∷ ls) before e he h = go (lineItem l) refl (λ i hi. lines-good ls (before ++ (l ∷ [])) (e ++ (i ∷ [])) (each-snoc SpellsLine before e l i he hi) (all-of-right (λ x. IsFault long file lines x → ⊥) (map (λ f. at-line f before l) lineFaults) (lineLabels (before ++ (l ∷ [])) ls) h))
+  lines-good (l ∷ ls) before e he h =
+      go
+      (none-here before l (all-of-left Not (map (λ f. at-line f before l) lineFaults) (lineLabels (before ++ (l ∷ [])) ls) h))
+      (lineItem l)
+      refl
+      (λ i hi. lines-good ls (before ++ (l ∷ [])) (e ++ (i ∷ [])) (each-snoc SpellsLine before e l i he hi) (all-of-right Not (map (λ f. at-line f before l) lineFaults) (lineLabels (before ++ (l ∷ [])) ls) h))
     where
-      short : leb (length (rowOf (l .text))) mostLine ≡ true
-      short = is-so (leb (length (rowOf (l .text))) mostLine) (λ p. h .1 .1 .0 (leb-false (length (rowOf (l .text))) mostLine p))
-
-      go : (o : Option Item) → lineItem l ≡ o → ((i : Item) → SpellsLine l i → (is : List Item) × LinesGood (e ++ (i ∷ [])) ls is) → (is : List Item) × LinesGood e (l ∷ ls) is
-      go none p ih = absurd (h .1 .1 .1 .1 .0 (refused line l p))
-      go (some i) p ih =
+      go : ((f : LineFault) → IsLineFault f before l → ⊥) → (o : Option Item) → lineItem l ≡ o → ((i : Item) → SpellsLine l i → (is : List Item) × LinesGood (e ++ (i ∷ [])) ls is) → (is : List Item) × LinesGood e (l ∷ ls) is
+      go n none p ih = absurd (n bad-field (refused line l p))
+      go n (some i) p ih =
           let hi = line .sound l i p in
           let k = ih i hi in
-          let r = k .1 in (
+          let r = k .1 in
+          let short = is-so (leb (length (rowOf (l .text))) mostLine) (λ q. n too-long (leb-false (length (rowOf (l .text))) mostLine q)) in (
             i ∷ k .0,
             record {
-              sound = both (both (both (is-so (all allowed (l .text)) (h .0)) (is-so (isEnded (l .end)) (h .1 .0))) short) (r .sound);
+              sound = both (both (both (is-so (all allowed (l .text)) (n bad-byte)) (is-so (isEnded (l .end)) (n no-CR))) short) (r .sound);
               spelled = (hi, r .spelled);
-              new = both (after-not isAgain before e l i he hi (h .1 .1 .1 .1 .1 .0)) (r .new);
-              few = both (after-not isTooMany before e l i he hi (h .1 .1 .1 .1 .1 .1 .0)) (r .few);
+              new = both (after-not isAgain before e l i he hi (n again)) (r .new);
+              few = both (after-not isTooMany before e l i he hi (n too-many)) (r .few);
             },
           )
 
@@ -97,22 +128,23 @@ module _ (long : Bool) (file : List ℕ) (lines : List Line) where
   good-lines (l ∷ ls) before e [] he r = absurd (r .spelled)
   good-lines (l ∷ ls) before e (i ∷ is) he r =
       let s = and (isSound l) (all isSound ls) (r .sound) in
-      let a = and (all allowed (l .text) && isEnded (l .end)) (leb (length (rowOf (l .text))) mostLine) (s .0) in
-      let b = and (all allowed (l .text)) (isEnded (l .end)) (a .0) in
       let n = and (isNew e i) (eachAfter isNew (e ++ (i ∷ [])) is) (r .new) in
       let f = and (isFew e i) (eachAfter isFew (e ++ (i ∷ [])) is) (r .few) in
-      let hi = r .spelled .0 in
-      let room = leb-true (length (rowOf (l .text))) mostLine (a .1) in
-      let ih = good-lines ls (before ++ (l ∷ [])) (e ++ (i ∷ [])) is (each-snoc SpellsLine before e l i he hi) (record { sound = s .1; spelled = r .spelled .1; new = n .1; few = f .1 }) in (
-        λ q. clash (sym q ∙ b .0),
-        (
-          λ q. clash (sym q ∙ b .1),
-          (
-            λ q. omega arith,
-            (
-              listed-line (rowOf (l .text)) i hi,
-              (λ q. q i hi, (not-after isAgain before e l i he hi (n .0), (not-after isTooMany before e l i he hi (f .0), ih))),
-            ),
-          ),
-        ),
-      )
+      all-of-append Not (map (λ f. at-line f before l) lineFaults) (lineLabels (before ++ (l ∷ [])) ls)
+      (all-of-map Not (λ f. at-line f before l) lineFaults (all-every (λ f. IsLineFault f before l → ⊥) (none (s .0) (n .0) (f .0)) lineFaults))
+      (good-lines ls (before ++ (l ∷ [])) (e ++ (i ∷ [])) is (each-snoc SpellsLine before e l i he (r .spelled .0)) (record { sound = s .1; spelled = r .spelled .1; new = n .1; few = f .1 }))
+    where
+      none : isSound l ≡ true → isNew e i ≡ true → isFew e i ≡ true → (f : LineFault) → IsLineFault f before l → ⊥
+      none s n w f h =
+          let a = and (all allowed (l .text) && isEnded (l .end)) (leb (length (rowOf (l .text))) mostLine) s in
+          let b = and (all allowed (l .text)) (isEnded (l .end)) (a .0) in
+          at (b .0) (b .1) (leb-true (length (rowOf (l .text))) mostLine (a .1)) n w f h
+        where
+          at : all allowed (l .text) ≡ true → isEnded (l .end) ≡ true → length (rowOf (l .text)) ≤ mostLine → isNew e i ≡ true → isFew e i ≡ true → (f : LineFault) → IsLineFault f before l → ⊥
+          at x y z n w bad-byte q = clash (sym q ∙ x)
+          at x y z n w no-CR q = clash (sym q ∙ y)
+          at x y z n w too-long q = omega arith
+          at x y z n w not-listed q = listed-line (rowOf (l .text)) i (r .spelled .0) q
+          at x y z n w bad-field q = q i (r .spelled .0)
+          at x y z n w again q = not-after isAgain before e l i he (r .spelled .0) n q
+          at x y z n w too-many q = not-after isTooMany before e l i he (r .spelled .0) w q

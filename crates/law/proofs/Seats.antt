@@ -25,7 +25,7 @@ use Rattle.law.specs.Players.{playerCode, everyRound, PlayerLine}
 use Rattle.law.specs.Items.{Item, passed, text, rounds, colour, scoring, acceleration, player, isPassed, Kind, passed-over, kept-text, 142-record, 152-record, 162-record, 250-record, 001-record, unlisted, kindOf, SpellsItem}
 use Rattle.law.specs.Tournament.{accelerationIn, playerIn}
 use Rattle.law.specs.Spelling.{SpellsLine}
-use Rattle.law.specs.Refusals.{Seat, onlyIf, linesOf, seatsFrom, Label, eachRound}
+use Rattle.law.specs.Refusals.{Seat, onlyIf, linesOf, seatsFrom, FileFault, Label, of-file, eachRound, eachSeat}
 
 -- ---- the code of a line says which record it is
 not-blank : (row : List ℕ) (x y z : ℕ) → part codeField row ≡ x ∷ y ∷ z ∷ [] → isBlank x ≡ false → all isBlank row ≡ false
@@ -182,14 +182,20 @@ module _ (Q : Seat → Type 0) where
   pub all-seats : (ns : List ℕ) → ((p : ℕ) → p < length ns → Q (seat p ns)) → AllOf Q (seatsFrom 0 ns)
   all-seats ns h = all-seats-from 0 ns (λ k l. subst (λ (x : ℕ). Q (record { place = x; line = getD ns k 0 })) (omega arith) (h k l))
 
-module _ (P : Label → Type 0) (label : Seat → ℕ → Label) (ns : List ℕ) where
-  pub rounds-all : AllOf P (eachRound label (seatsFrom 0 ns)) → (p r : ℕ) → p < length ns → 1 ≤ r → r ≤ mostRounds → P (label (seat p ns) r)
+module _ (P : Label → Type 0) (f : FileFault) (ns : List ℕ) where
+  pub rounds-all : AllOf P (eachRound f (seatsFrom 0 ns)) → (p r : ℕ) → p < length ns → 1 ≤ r → r ≤ mostRounds → P (of-file f (seat p ns) r)
   rounds-all h p r l a b =
-      let s = seats-all (λ s. AllOf P (map (label s) everyRound)) ns (flat-all-of P (λ s. map (label s) everyRound) (seatsFrom 0 ns) h) p l in
-      from-all (λ r. P (label (seat p ns) r)) 1 mostRounds (map-all-of P (label (seat p ns)) everyRound s) r a (omega arith)
+      let s = seats-all (λ s. AllOf P (map (of-file f s) everyRound)) ns (flat-all-of P (λ s. map (of-file f s) everyRound) (seatsFrom 0 ns) h) p l in
+      from-all (λ r. P (of-file f (seat p ns) r)) 1 mostRounds (map-all-of P (of-file f (seat p ns)) everyRound s) r a (omega arith)
 
-  pub all-rounds : ((p r : ℕ) → p < length ns → 1 ≤ r → r ≤ mostRounds → P (label (seat p ns) r)) → AllOf P (eachRound label (seatsFrom 0 ns))
+  pub all-rounds : ((p r : ℕ) → p < length ns → 1 ≤ r → r ≤ mostRounds → P (of-file f (seat p ns) r)) → AllOf P (eachRound f (seatsFrom 0 ns))
   all-rounds h =
-      all-of-flat P (λ s. map (label s) everyRound) (seatsFrom 0 ns)
-      (all-seats (λ s. AllOf P (map (label s) everyRound)) ns
-      (λ p l. all-of-map P (label (seat p ns)) everyRound (all-from (λ r. P (label (seat p ns) r)) 1 mostRounds (λ r a b. h p r l a (omega arith)))))
+      all-of-flat P (λ s. map (of-file f s) everyRound) (seatsFrom 0 ns)
+      (all-seats (λ s. AllOf P (map (of-file f s) everyRound)) ns
+      (λ p l. all-of-map P (of-file f (seat p ns)) everyRound (all-from (λ r. P (of-file f (seat p ns) r)) 1 mostRounds (λ r a b. h p r l a (omega arith)))))
+
+  pub places-all : AllOf P (eachSeat f (seatsFrom 0 ns)) → (p : ℕ) → p < length ns → P (of-file f (seat p ns) 0)
+  places-all h = seats-all (λ s. P (of-file f s 0)) ns (map-all-of P (λ s. of-file f s 0) (seatsFrom 0 ns) h)
+
+  pub all-places : ((p : ℕ) → p < length ns → P (of-file f (seat p ns) 0)) → AllOf P (eachSeat f (seatsFrom 0 ns))
+  all-places h = all-of-map P (λ s. of-file f s 0) (seatsFrom 0 ns) (all-seats (λ s. P (of-file f s 0)) ns h)

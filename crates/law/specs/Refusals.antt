@@ -88,16 +88,46 @@ playerSeats lines = seatsFrom 0 (linesOf playerCode 0 lines)
 abbrev pub accelerationSeats : List Line → List Seat
 accelerationSeats lines = seatsFrom 0 (linesOf accelerationCode 0 lines)
 
--- ---- all labels
+-- ---- the faults of the file as a whole: 10, 11, 17 and 12 to 16
+pub data FileFault : Type 0 where
+  incomplete past-142 shared : FileFault
+  unlawful : Law → FileFault
+  wrong-sum : FileFault
+
+-- "then 10, 11, 17, 12, 13, 14, 15, 16, each over the whole file before the next"
+abbrev pub fileFaults : List FileFault
+fileFaults = incomplete ∷ past-142 ∷ shared ∷ unlawful bye-or-game ∷ unlawful mutual-pairing ∷ unlawful fitting-results ∷ unlawful one-U ∷ wrong-sum ∷ []
+
+-- 10: "no 012 or no 001"
+abbrev pub isComplete : Tournament → Bool
+isComplete t = any isName (t .text) && not (isEmpty (t .players))
+
+-- of the items that all lines spell, at a place and a round
+unfoldable pub isFileFault : List Item → FileFault → ℕ → ℕ → Bool
+isFileFault items incomplete place r = not (isComplete (tournamentOf items))
+isFileFault items past-142 place r = isPast items place r
+isFileFault items shared place r = sharesEarlier (flat accelerationIn items) place
+isFileFault items (unlawful law) place r = leb r (tournamentOf items .rounds) && not (keeps (tournamentOf items) law place r)
+isFileFault items wrong-sum place r = not (statesSum (tournamentOf items) place)
+
+pub record OfItems (lines : List Line) (f : FileFault) (place r : ℕ) : Type 0 where
+  pub items : List Item
+  pub spelled : Each SpellsLine lines items
+  pub holds : isFileFault items f place r ≡ true
+
+-- ---- all labels: what, and where
 pub data Label : Type 0 where
   too-short : Label
   too-big : Label
   at-line : LineFault → List Line → Line → Label
-  incomplete : Label
-  past-142 : Seat → ℕ → Label
-  shared : Seat → Label
-  unlawful : Law → Seat → ℕ → Label
-  wrong-sum : Seat → Label
+  of-file : FileFault → Seat → ℕ → Label
+
+-- long: no lent table is too short
+abbrev pub IsFault : Bool → List ℕ → List Line → Label → Type 0
+IsFault long file lines too-short = long ≡ false
+IsFault long file lines too-big = mostFile < length file
+IsFault long file lines (at-line f before l) = IsLineFault f before l
+IsFault long file lines (of-file f s r) = OfItems lines f (s .place) r
 
 -- ---- number, line, round
 pub record Refusal : Type 0 where
@@ -117,74 +147,47 @@ lineNumber bad-field = 7
 lineNumber again = 8
 lineNumber too-many = 9
 
-abbrev pub lawNumber : Law → ℕ
-lawNumber bye-or-game = 12
-lawNumber mutual-pairing = 13
-lawNumber fitting-results = 14
-lawNumber one-U = 15
+abbrev pub fileNumber : FileFault → ℕ
+fileNumber incomplete = 10
+fileNumber past-142 = 11
+fileNumber (unlawful bye-or-game) = 12
+fileNumber (unlawful mutual-pairing) = 13
+fileNumber (unlawful fitting-results) = 14
+fileNumber (unlawful one-U) = 15
+fileNumber wrong-sum = 16
+fileNumber shared = 17
 
 abbrev pub refusalOf : Label → Refusal
 refusalOf too-short = refusal 1 0 0
 refusalOf too-big = refusal 2 0 0
 refusalOf (at-line f before l) = refusal (lineNumber f) (length before + 1) 0
-refusalOf incomplete = refusal 10 0 0
-refusalOf (past-142 s r) = refusal 11 (s .line) r
-refusalOf (shared s) = refusal 17 (s .line) 0
-refusalOf (unlawful law s r) = refusal (lawNumber law) (s .line) r
-refusalOf (wrong-sum s) = refusal 16 (s .line) 0
+refusalOf (of-file f s r) = refusal (fileNumber f) (s .line) r
 
--- ---- what makes a label a fault. After the lines: of the items that all lines spell
-abbrev pub isComplete : Tournament → Bool
-isComplete t = any isName (t .text) && not (isEmpty (t .players))
-
-unfoldable pub isFileFault : List Item → Label → Bool
-isFileFault items too-short = false
-isFileFault items too-big = false
-isFileFault items (at-line f before l) = false
-isFileFault items incomplete = not (isComplete (tournamentOf items))
-isFileFault items (past-142 s r) = isPast items (s .place) r
-isFileFault items (shared s) = sharesEarlier (flat accelerationIn items) (s .place)
-isFileFault items (unlawful law s r) = leb r (tournamentOf items .rounds) && not (keeps (tournamentOf items) law (s .place) r)
-isFileFault items (wrong-sum s) = not (statesSum (tournamentOf items) (s .place))
-
-pub record FileFault (lines : List Line) (x : Label) : Type 0 where
-  pub items : List Item
-  pub spelled : Each SpellsLine lines items
-  pub holds : isFileFault items x ≡ true
-
--- long: no lent table is too short
-abbrev pub IsFault : Bool → List ℕ → List Line → Label → Type 0
-IsFault long file lines too-short = long ≡ false
-IsFault long file lines too-big = mostFile < length file
-IsFault long file lines (at-line f before l) = IsLineFault f before l
-IsFault long file lines incomplete = FileFault lines incomplete
-IsFault long file lines (past-142 s r) = FileFault lines (past-142 s r)
-IsFault long file lines (shared s) = FileFault lines (shared s)
-IsFault long file lines (unlawful law s r) = FileFault lines (unlawful law s r)
-IsFault long file lines (wrong-sum s) = FileFault lines (wrong-sum s)
-
--- ---- "Order: 1, 2; then line by line in file order, each line tested for 3 to 9 in turn; then 10, 11, 17, 12, 13, 14, 15, 16, each over the whole file
--- before the next. Within one number the first player in file order counts, then the lowest round."
+-- ---- "Order: 1, 2; then line by line in file order, each line tested for 3 to 9 in turn; then [the faults of the file]. Within one number the first
+-- player in file order counts, then the lowest round."
 abbrev pub lineLabels : List Line → List Line → List Label
 lineLabels before [] = []
 lineLabels before (l ∷ ls) = map (λ f. at-line f before l) lineFaults ++ lineLabels (before ++ (l ∷ [])) ls
 
-abbrev pub eachRound : (Seat → ℕ → Label) → List Seat → List Label
-eachRound label seats = flat (λ s. map (label s) everyRound) seats
+abbrev pub eachRound : FileFault → List Seat → List Label
+eachRound f seats = flat (λ s. map (of-file f s) everyRound) seats
 
-abbrev pub fileLabels : List Seat → List Seat → List Label
-fileLabels players accelerations =
-    incomplete ∷
-    (eachRound past-142 players ++
-    (map shared accelerations ++
-    (eachRound (unlawful bye-or-game) players ++
-    (eachRound (unlawful mutual-pairing) players ++
-    (eachRound (unlawful fitting-results) players ++
-    (eachRound (unlawful one-U) players ++
-    map wrong-sum players))))))
+abbrev pub eachSeat : FileFault → List Seat → List Label
+eachSeat f seats = map (λ s. of-file f s 0) seats
+
+-- a label of its own for the file as a whole, at no line
+abbrev pub nowhere : Seat
+nowhere = record { place = 0; line = 0 }
+
+abbrev pub labelsOf : List Seat → List Seat → FileFault → List Label
+labelsOf players accelerations incomplete = of-file incomplete nowhere 0 ∷ []
+labelsOf players accelerations past-142 = eachRound past-142 players
+labelsOf players accelerations shared = eachSeat shared accelerations
+labelsOf players accelerations (unlawful law) = eachRound (unlawful law) players
+labelsOf players accelerations wrong-sum = eachSeat wrong-sum players
 
 unfoldable pub labels : List Line → List Label
-labels lines = too-short ∷ too-big ∷ (lineLabels [] lines ++ fileLabels (playerSeats lines) (accelerationSeats lines))
+labels lines = too-short ∷ too-big ∷ (lineLabels [] lines ++ flat (labelsOf (playerSeats lines) (accelerationSeats lines)) fileFaults)
 
 -- ---- the outcome for a file: refused by its first fault; or accepted, with no fault, as the tournament that it spells
 pub data Outcome : Type 0 where

@@ -71,8 +71,8 @@ written-long t h =
     let x = scoring-long (t .scoring) in
     let y = bytes-map (λ a. isAcceleration a ≡ true) accelerationLine 31 (λ a q. let l = acceleration-long a q in omega arith) (t .accelerations) (of-all isAcceleration (t .accelerations) (h .accelerations)) in
     let z = bytes-map (λ (p : Player). LawfulPlayer (t .rounds) p × AllOf GoodEntry (p .entries)) playerLine 289
-        (λ p k. let l = player-long (t .rounds) p (k .0) (h .rounds) (k .1) in let r = h .rounds in omega arith)
-        (t .players) (all-and (LawfulPlayer (t .rounds)) (λ (p : Player). AllOf GoodEntry (p .entries)) (t .players) (h .players) (entries-good t h)) in
+    (λ p k. let l = player-long (t .rounds) p (k .0) (h .rounds) (k .1) in let r = h .rounds in omega arith)
+    (t .players) (all-and (LawfulPlayer (t .rounds)) (λ (p : Player). AllOf GoodEntry (p .entries)) (t .players) (h .players) (entries-good t h)) in
     let m = h .accelerations-fit in
     let n = h .players-fit in
     omega arith

@@ -307,7 +307,7 @@ module _ (R : ℕ) (p : Player) (k : LawfulPlayer R p) (small : R ≤ mostRounds
       let m : ℕ = length (p .entries) in
       let more : List Field = flat roundFields (from (1 + m) (mostRounds - m)) in
       let f : flat roundFields everyRound ≡ fieldsOf (entriesFrom 1 (p .entries)) ++ more =
-          ap (flat roundFields) (every-split m (omega arith)) ∙ flat-append roundFields (from 1 m) (from (1 + m) (mostRounds - m)) ∙ ap (λ (l : List Field). l ++ more) (sym (entries-fields 1 (p .entries))) in
+      ap (flat roundFields) (every-split m (omega arith)) ∙ flat-append roundFields (from 1 m) (from (1 + m) (mostRounds - m)) ∙ ap (λ (l : List Field). l ++ more) (sym (entries-fields 1 (p .entries))) in
       let e : endOf afterCode (pieces001 p) ≡ 90 + 10 * m = entries-end 1 (p .entries) (omega arith) ∙ omega arith in
       let l = player-long in
       let past : elseBlank (90 + 10 * m) more (playerLine p) ≡ true = else-past (playerLine p) (90 + 10 * m) more (omega arith) (rising (90 + 10 * m) (1 + m) (mostRounds - m) (omega arith) (omega arith)) in
@@ -354,7 +354,7 @@ module _ (R : ℕ) (p : Player) (k : LawfulPlayer R p) (small : R ≤ mostRounds
   player-again =
       let n = k .entries in
       let e : take R (map slotFor (p .entries) ++ replicate (mostRounds - length (p .entries)) noSlot) ≡ map slotFor (p .entries) =
-          lib.Seq.take-at (map slotFor (p .entries)) (replicate (mostRounds - length (p .entries)) noSlot) R (lib.ListN.length-map (p .entries) slotFor ∙ n) in
+      lib.Seq.take-at (map slotFor (p .entries)) (replicate (mostRounds - length (p .entries)) noSlot) R (lib.ListN.length-map (p .entries) slotFor ∙ n) in
       λ i. record { start = p .start; kept = p .kept; points = p .points; rank = p .rank; entries = (ap (map normal) e ∙ normals (p .entries) g) i }
     where
       normals : (es : List Entry) → AllOf GoodEntry es → map normal (map slotFor es) ≡ es

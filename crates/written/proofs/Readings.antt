@@ -21,7 +21,7 @@ use Rattle.law.specs.Tournament.{Tournament}
 use Rattle.law.specs.Lawful.{Lawful}
 use Rattle.law.specs.Spelling.{SpellsFile}
 use Rattle.law.specs.Tables.{Tables, Lent, lineCells, rooms, areLong, enough, enoughLent, contentOf, linesContent, HoldAll, HoldLent, answerOf}
-use Rattle.law.specs.Refusals.{Label, too-short, too-big, at-line, incomplete, past-142, shared, unlawful, wrong-sum, LineFault, bad-byte, no-CR, too-long, not-listed, bad-field, again, too-many, Refusal, refusal, refusalOf, Outcome, refused, accepted, Judged}
+use Rattle.law.specs.Refusals.{Label, too-short, too-big, at-line, of-file, incomplete, past-142, shared, unlawful, wrong-sum, LineFault, bad-byte, no-CR, too-long, not-listed, bad-field, again, too-many, Refusal, refusal, refusalOf, Outcome, refused, accepted, Judged}
 use Rattle.law.specs.Entries.{Law, bye-or-game, mutual-pairing, fitting-results, one-U}
 use Rattle.law.specs.Writing.{written, earnedBefore, accelerationFor}
 use Rattle.law.specs.Calls.{refusedAnswer, Leaves, Reads, Reading, Denial, denialOf, NoReading, writerEnd, WriterDenies, writerDenials, writtenAnswer, WriteRefused, WriteDone, Writes, write-refused, write-done, QuestionDenies, questionDenials, scoreAnswer, AskRefused, AskDone, Asks, ask-refused, ask-done}
@@ -49,14 +49,14 @@ refused-not-0 (at-line not-listed b l) e = omega arith
 refused-not-0 (at-line bad-field b l) e = omega arith
 refused-not-0 (at-line again b l) e = omega arith
 refused-not-0 (at-line too-many b l) e = omega arith
-refused-not-0 incomplete e = omega arith
-refused-not-0 (past-142 s r) e = omega arith
-refused-not-0 (shared s) e = omega arith
-refused-not-0 (unlawful bye-or-game s r) e = omega arith
-refused-not-0 (unlawful mutual-pairing s r) e = omega arith
-refused-not-0 (unlawful fitting-results s r) e = omega arith
-refused-not-0 (unlawful one-U s r) e = omega arith
-refused-not-0 (wrong-sum s) e = omega arith
+refused-not-0 (of-file incomplete s r) e = omega arith
+refused-not-0 (of-file past-142 s r) e = omega arith
+refused-not-0 (of-file shared s r) e = omega arith
+refused-not-0 (of-file (unlawful bye-or-game) s r) e = omega arith
+refused-not-0 (of-file (unlawful mutual-pairing) s r) e = omega arith
+refused-not-0 (of-file (unlawful fitting-results) s r) e = omega arith
+refused-not-0 (of-file (unlawful one-U) s r) e = omega arith
+refused-not-0 (of-file wrong-sum s r) e = omega arith
 
 -- what an acceptance has read is a lawful tournament that the file spells
 pub record Read (file : List ℕ) (before : Lent) (answer : Answer) (after : Lent) : Type 0 where
@@ -147,7 +147,7 @@ writes-once answer tables before r s x y (write-done a) (write-done b) =
     let e = one-reading answer tables (a .file) (b .file) (a .t) (b .t) (a .reading) (b .reading) in (
       a .says ∙ ap (λ (t : Tournament). writtenAnswer (refusal 0 0 0) (length (written writerEnd t))) e ∙ sym (b .says),
       one-content 0 (length (written writerEnd (b .t))) (λ i. getD (written writerEnd (b .t)) i 0) before x y
-      (subst (λ (t : Tournament). Holds 0 (length (written writerEnd t)) (λ i. getD (written writerEnd t) i 0) before x) e (a .bytes)) (b .bytes),
+          (subst (λ (t : Tournament). Holds 0 (length (written writerEnd t)) (λ i. getD (written writerEnd t) i 0) before x) e (a .bytes)) (b .bytes),
     )
 
 -- ---- the question: one answer

@@ -90,20 +90,20 @@ unfolding writtenLines itemsOf
 lines-good t h =
     good-append (t .text) _ (map text (t .text)) _ (text-good (t .text) (h .text)) (
       let l = rounds-long (t .rounds) (h .rounds) in
-      record { spells = rounds-item (t .rounds) (h .rounds); clean = rounds-allowed (t .rounds) (h .rounds); short = omega arith },
+          record { spells = rounds-item (t .rounds) (h .rounds); clean = rounds-allowed (t .rounds) (h .rounds); short = omega arith },
       good-append (colourLines (t .colour)) _ (colourItems (t .colour)) _ (colour-good (t .colour) (h .colour)) (
         let l = scoring-long (t .scoring) in
-        record { spells = scoring-item (t .scoring) (h .scoring); clean = scoring-allowed (t .scoring); short = omega arith },
+            record { spells = scoring-item (t .scoring) (h .scoring); clean = scoring-allowed (t .scoring); short = omega arith },
         good-append (map accelerationLine (t .accelerations)) (map playerLine (t .players)) (map acceleration (t .accelerations)) (map (λ p. player (lineOf p)) (t .players))
-        (good-map (λ a. isAcceleration a ≡ true) accelerationLine acceleration
-        (λ a e. let l = acceleration-long a e in record { spells = acceleration-item a e; clean = acceleration-allowed a e; short = omega arith })
-        (t .accelerations) (of-all isAcceleration (t .accelerations) (h .accelerations)))
-        (good-map (λ (p : Player). LawfulPlayer (t .rounds) p × AllOf GoodEntry (p .entries)) playerLine (λ p. player (lineOf p))
-        (λ p k.
-        let l = player-long (t .rounds) p (k .0) (h .rounds) (k .1) in
-        let r = h .rounds in
-        record { spells = player-item (t .rounds) p (k .0) (h .rounds) (k .1); clean = player-allowed (t .rounds) p (k .0) (h .rounds) (k .1); short = omega arith })
-        (t .players) (all-and (LawfulPlayer (t .rounds)) (λ (p : Player). AllOf GoodEntry (p .entries)) (t .players) (h .players) (entries-good t h))),
+            (good-map (λ a. isAcceleration a ≡ true) accelerationLine acceleration
+            (λ a e. let l = acceleration-long a e in record { spells = acceleration-item a e; clean = acceleration-allowed a e; short = omega arith })
+            (t .accelerations) (of-all isAcceleration (t .accelerations) (h .accelerations)))
+            (good-map (λ (p : Player). LawfulPlayer (t .rounds) p × AllOf GoodEntry (p .entries)) playerLine (λ p. player (lineOf p))
+            (λ p k.
+            let l = player-long (t .rounds) p (k .0) (h .rounds) (k .1) in
+            let r = h .rounds in
+            record { spells = player-item (t .rounds) p (k .0) (h .rounds) (k .1); clean = player-allowed (t .rounds) p (k .0) (h .rounds) (k .1); short = omega arith })
+            (t .players) (all-and (LawfulPlayer (t .rounds)) (λ (p : Player). AllOf GoodEntry (p .entries)) (t .players) (h .players) (entries-good t h))),
       ),
     )
 
@@ -303,7 +303,7 @@ past-blank t h place r l a b = go (ltb (roundsOf (itemsOf t)) r) refl
         let m = ltb-true (roundsOf (itemsOf t)) r e in
         let n = rounds-said t in
         let k : AllOf (λ (q : PlayerLine). slotAt r q .used ≡ false) (map lineOf (t .players)) =
-            all-of-map (λ (q : PlayerLine). slotAt r q .used ≡ false) lineOf (t .players) (all-of-each (LawfulPlayer (t .rounds)) (λ p. slotAt r (lineOf p) .used ≡ false) (λ p q. unused p (t .rounds) r (q .entries) (omega arith)) (t .players) (h .players)) in
+        all-of-map (λ (q : PlayerLine). slotAt r q .used ≡ false) lineOf (t .players) (all-of-each (LawfulPlayer (t .rounds)) (λ p. slotAt r (lineOf p) .used ≡ false) (λ p q. unused p (t .rounds) r (q .entries) (omega arith)) (t .players) (h .players)) in
         all-of-at (λ (q : PlayerLine). slotAt r q .used ≡ false) noLine (flat playerIn (itemsOf t)) (subst (AllOf (λ (q : PlayerLine). slotAt r q .used ≡ false)) (sym (players t)) k) place l
 
 -- ---- demand 3, its last sentence: what the writer produces is one of the tournament's spellings
