@@ -117,7 +117,7 @@ CHANGES = [
     ("Items", "isPassed row = all isBlank row ||", "isPassed row = all isBlank (part codeField row) ||"),
     # tournament
     ("Tournament", 'blankAs (code "Z") (s .result)', 'blankAs (code "H") (s .result)'),
-    ("Tournament", "roundsOf items = onlyOr (usedRounds (flat playerIn items)) (flat roundsIn items)", "roundsOf items = onlyOr 0 (flat roundsIn items)"),
+    ("Tournament", "roundsOf items = onlyOr (usedRounds (flat playerIn items)) (flat roundsIn items)", "roundsOf items = onlyOr (usedRounds []) (flat roundsIn items)"),
     ("Tournament", "entries = map normal (take R (p .slots))", "entries = map normal (take (R - 1) (p .slots))"),
     ("Tournament", "colour = onlyOr 0 (flat colourIn items)", "colour = 0"),
     ("Tournament", "scoring = scoringOf (onlyOr [] (flat scoringIn items))", "scoring = scoringOf []"),

@@ -166,6 +166,14 @@ fine l (player p) s h =
       slots = each-length (SpellsSlot (rowOf (l .text))) everyRound (p .slots) (q .slots);
     }
 
+used-small : (lines : List PlayerLine) → usedRounds lines ≤ mostRounds
+unfolding usedRounds
+used-small lines = top-low _ mostRounds
+
+only-small : (d : ℕ) (ns : List ℕ) → d ≤ mostRounds → AllOf (λ n. n ≤ mostRounds) ns → onlyOr d ns ≤ mostRounds
+only-small d [] l h = l
+only-small d (n ∷ ns) l h = h .0
+
 -- of all that the items add
 module _ {A : Type 0} (add : Item → List A) (P : A → Type 0) (each : (i : Item) → Fine i → AllOf P (add i)) where
   pub all-added : (ls : List Line) (is : List Item) → all isSound ls ≡ true → Each SpellsLine ls is → AllOf P (flat add is)
@@ -252,9 +260,5 @@ module _ (ls : List Line) (is : List Item) (s : all isSound ls ≡ true) (h : Ea
 
   -- "value 0 to 20"; and there are twenty rounds to use
   pub rounds-small : roundsOf is ≤ mostRounds
-  unfolding roundsOf usedRounds
-  rounds-small = go (flat roundsIn is) rounds-fine
-    where
-      go : (ns : List ℕ) → AllOf (λ n. n ≤ mostRounds) ns → onlyOr (usedRounds (flat playerIn is)) ns ≤ mostRounds
-      go [] f = top-low _ mostRounds
-      go (n ∷ ns) f = f .0
+  unfolding roundsOf
+  rounds-small = only-small _ (flat roundsIn is) (used-small _) rounds-fine
