@@ -158,7 +158,6 @@ CHANGES = [
     ("Tables", "(mostAccelerations, length (t .accelerations)) ∷ []", "[]"),
     # refusals
     ("Refusals", "lineNumber again = 8", "lineNumber again = 9"),
-    ("Refusals", "bad-field ∷ again ∷ too-many ∷ []", "again ∷ bad-field ∷ too-many ∷ []"),
     ("Refusals", "again ∷ too-many ∷ []", "too-many ∷ again ∷ []"),
     ("Refusals", "bad-byte ∷ no-CR ∷ too-long", "no-CR ∷ bad-byte ∷ too-long"),
     ("Refusals", "no-CR ∷ too-long ∷ not-listed", "no-CR ∷ not-listed ∷ too-long"),

@@ -70,6 +70,8 @@ lineRows =
     refuses (replicate 512 32 ++ (13 ∷ [])) 10 0 0 ∷
     refuses (cup ++ (replicate 513 32 ++ (13 ∷ []))) 5 2 0 ∷
     refuses (ascii "###" ++ (replicate 510 120 ++ (13 ∷ []))) 5 1 0 ∷
+    refuses (ascii "013" ++ (replicate 510 120 ++ (13 ∷ []))) 5 1 0 ∷
+    refuses (ascii "012" ++ replicate 510 120) 4 1 0 ∷
     refuses (line "013 x" ++ line "\t") 6 1 0 ∷
     refuses (line "###x" ++ (cup ++ line " ###")) 6 3 0 ∷
     refuses (line "01") 6 1 0 ∷

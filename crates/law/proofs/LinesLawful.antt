@@ -143,7 +143,7 @@ Fine (scoring given) = Small given
 Fine (acceleration a) = isAcceleration a ≡ true
 Fine (player p) = LawfulLine p
 
-fine : (l : Line) (i : Item) → isSound l ≡ true → SpellsLine l i → Fine i
+pub fine : (l : Line) (i : Item) → isSound l ≡ true → SpellsLine l i → Fine i
 fine l passed s h = tt
 fine l (text kept) s h =
     let a = and (all allowed (l .text) && isEnded (l .end)) (leb (length (rowOf (l .text))) mostLine) s in

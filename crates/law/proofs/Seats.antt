@@ -33,7 +33,7 @@ unfolding cells
 not-blank [] x y z e h = let u : blank ≡ x = cc in clash (sym h ∙ ap isBlank (sym u))
 not-blank (c ∷ row) x y z e h = let u : c ≡ x = cc in rw (u, h) refl
 
-abbrev is001 : Kind → Bool
+abbrev pub is001 : Kind → Bool
 is001 passed-over = false
 is001 kept-text = false
 is001 142-record = false
@@ -43,7 +43,7 @@ is001 250-record = false
 is001 001-record = true
 is001 unlisted = false
 
-abbrev is250 : Kind → Bool
+abbrev pub is250 : Kind → Bool
 is250 passed-over = false
 is250 kept-text = false
 is250 142-record = false
@@ -53,9 +53,9 @@ is250 250-record = true
 is250 001-record = false
 is250 unlisted = false
 
-player-code : (row : List ℕ) → same (part codeField row) playerCode ≡ is001 (kindOf row)
+pub player-code-is : (row : List ℕ) → same (part codeField row) playerCode ≡ is001 (kindOf row)
 unfolding kindOf
-player-code row = go (same (part codeField row) playerCode) refl
+player-code-is row = go (same (part codeField row) playerCode) refl
   where
     other : (a b c d e f : Bool) → is001 (cond a passed-over (cond b kept-text (cond c 142-record (cond d 152-record (cond e 162-record (cond f 250-record unlisted)))))) ≡ false
     other true b c d e f = refl
@@ -75,9 +75,9 @@ player-code row = go (same (part codeField row) playerCode) refl
         (sym
         (other (isPassed row) (isOneOf (part codeField row) textCodes) (same (part codeField row) roundsCode) (same (part codeField row) colourCode) (same (part codeField row) scoringCode) (same (part codeField row) accelerationCode)))
 
-acceleration-code : (row : List ℕ) → same (part codeField row) accelerationCode ≡ is250 (kindOf row)
+pub acceleration-code-is : (row : List ℕ) → same (part codeField row) accelerationCode ≡ is250 (kindOf row)
 unfolding kindOf
-acceleration-code row = go (same (part codeField row) accelerationCode) refl
+acceleration-code-is row = go (same (part codeField row) accelerationCode) refl
   where
     other : (a b c d e f : Bool) → is250 (cond a passed-over (cond b kept-text (cond c 142-record (cond d 152-record (cond e 162-record (cond f 001-record unlisted)))))) ≡ false
     other true b c d e f = refl
@@ -97,7 +97,7 @@ acceleration-code row = go (same (part codeField row) accelerationCode) refl
         (sym
         (other (isPassed row) (isOneOf (part codeField row) textCodes) (same (part codeField row) roundsCode) (same (part codeField row) colourCode) (same (part codeField row) scoringCode) (same (part codeField row) playerCode)))
 
-kind-of : Item → Kind
+unfoldable pub kind-of : Item → Kind
 kind-of passed = passed-over
 kind-of (text a) = kept-text
 kind-of (rounds n) = 142-record
@@ -106,7 +106,7 @@ kind-of (scoring g) = 162-record
 kind-of (acceleration a) = 250-record
 kind-of (player p) = 001-record
 
-item-kind : (row : List ℕ) (i : Item) → SpellsItem row i → kindOf row ≡ kind-of i
+pub item-kind : (row : List ℕ) (i : Item) → SpellsItem row i → kindOf row ≡ kind-of i
 unfolding kind-of
 item-kind row passed h = h
 item-kind row (text a) h = h .0
@@ -135,7 +135,7 @@ module _ {A : Type 0} (code : List ℕ) (add : Item → List A) (is : Kind → B
 
 pub player-lines : (ls : List Line) (items : List Item) → Each SpellsLine ls items → length (linesOf playerCode 0 ls) ≡ length (flat playerIn items)
 unfolding kind-of
-player-lines ls items h = as-many playerCode playerIn is001 player-code one 0 ls items h
+player-lines ls items h = as-many playerCode playerIn is001 player-code-is one 0 ls items h
   where
     one : (i : Item) → length (playerIn i) ≡ length (onlyIf (is001 (kind-of i)) 0)
     one passed = refl
@@ -148,7 +148,7 @@ player-lines ls items h = as-many playerCode playerIn is001 player-code one 0 ls
 
 pub acceleration-lines : (ls : List Line) (items : List Item) → Each SpellsLine ls items → length (linesOf accelerationCode 0 ls) ≡ length (flat accelerationIn items)
 unfolding kind-of
-acceleration-lines ls items h = as-many accelerationCode accelerationIn is250 acceleration-code one 0 ls items h
+acceleration-lines ls items h = as-many accelerationCode accelerationIn is250 acceleration-code-is one 0 ls items h
   where
     one : (i : Item) → length (accelerationIn i) ≡ length (onlyIf (is250 (kind-of i)) 0)
     one passed = refl

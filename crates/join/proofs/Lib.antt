@@ -1,0 +1,6 @@
+pub mod Cells
+pub mod Firsts
+pub mod Runs
+pub mod Codes
+pub mod Keeps
+pub mod Steps

@@ -1,0 +1,5 @@
+pub mod Run
+pub mod Grid
+pub mod Store
+pub mod Kept
+pub mod Check
