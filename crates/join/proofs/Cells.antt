@@ -56,7 +56,7 @@ module _ {A : Type 0} (d : A) (n : ℕ) (b : List A) (room : n ≤ length b) whe
   holds-sets (a ∷ v) l x h m =
       let e : length (l ++ (a ∷ [])) ≡ suc (length l) = length-append l (a ∷ []) ∙ omega arith in
       let s : Holds d n (listed ((l ++ (a ∷ [])) ++ v)) b (sets (set x (length l) a) (length (l ++ (a ∷ []))) v) =
-          holds-sets v (l ++ (a ∷ [])) (set x (length l) a) (holds-snoc l x a h (omega arith)) (omega arith) in
+      holds-sets v (l ++ (a ∷ [])) (set x (length l) a) (holds-snoc l x a h (omega arith)) (omega arith) in
       rw (append-snoc l a v, e) at s
 
   pub holds-append : (v l x : List A) → Holds d n (listed l) b x → length l + length v ≤ n → Holds d n (listed (l ++ v)) b (paste x (length l) v (length v))

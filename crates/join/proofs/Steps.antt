@@ -28,7 +28,7 @@ use Rattle.law.specs.Items.{Item, passed, text, rounds, colour, scoring, accele
 use Rattle.law.specs.Lawful.{noAcceleration}
 use Rattle.law.specs.Tournament.{textIn, roundsIn, colourIn, scoringIn, accelerationIn, playerIn}
 use Rattle.law.specs.Spelling.{isSound, SpellsLine, noLine}
-use Rattle.law.specs.Refusals.{LineFault, bad-byte, no-CR, too-long, not-listed, bad-field, again, too-many, lineFaults, isAgain, isTooMany, onlyIf, linesOf, lineNumber}
+use Rattle.law.specs.Refusals.{LineFault, bad-byte, no-CR, too-long, not-listed, bad-field, again, too-many, lineFaults, isAgain, isTooMany, onlyIf, linesOf, lineFaultNumber}
 use Rattle.law.proofs.RecordsRead.{textOf, roundsOfRow, colourOf, givenOf, accelerationOf, playerOf, text-line, rounds-line, colour-line, scoring-line, acceleration-line, player-line, itemAs, itemOf}
 use Rattle.law.proofs.ColumnLaws.{cells-blanks}
 use Rattle.law.proofs.Faults.{lineItem, lineItems, line, lines-spelled, isUnlisted, testAfter, testLine}
@@ -56,7 +56,7 @@ pub record After (b : Nine) (e : List Line) (s : State) : Type 0 where
 
 -- ---- the number of a line's first fault
 abbrev pub faultOf : List Line → Line → Option ℕ
-faultOf e l = to lineNumber (first (λ f. testLine f e l) lineFaults)
+faultOf e l = to lineFaultNumber (first (λ f. testLine f e l) lineFaults)
 
 abbrev itemFault : List Item → Option Item → Option ℕ
 itemFault is none = some 7
@@ -223,7 +223,7 @@ module _ (b : Nine) (long : Long b) (e : List Line) (s : State) (h : After b e s
       let room = ltb-false mostAccelerations (length (flat accelerationIn is) + 1) few in
       let n = acceleration-lines e is (h .good .spelled) in
       let own : linesOf accelerationCode 0 (e ++ (l ∷ [])) ≡ linesOf accelerationCode 0 e ++ ((s .line + 1) ∷ []) =
-          lines-snoc accelerationCode 0 e l ∙ ap (λ (v : Bool). linesOf accelerationCode 0 e ++ onlyIf v (0 + length e + 1)) (acceleration-code-is row ∙ ap is250 (hi .0)) ∙ ap (λ (m : ℕ). linesOf accelerationCode 0 e ++ (m ∷ [])) ln-is in
+      lines-snoc accelerationCode 0 e l ∙ ap (λ (v : Bool). linesOf accelerationCode 0 e ++ onlyIf v (0 + length e + 1)) (acceleration-code-is row ∙ ap is250 (hi .0)) ∙ ap (λ (m : ℕ). linesOf accelerationCode 0 e ++ (m ∷ [])) ln-is in
       record {
         items = is ++ (acceleration a ∷ []);
         good = good-snoc e is l (acceleration a) (h .good) sound hi new few;
@@ -258,7 +258,7 @@ module _ (b : Nine) (long : Long b) (e : List Line) (s : State) (h : After b e s
       let room = ltb-false mostPlayers (length (flat playerIn is) + 1) few in
       let n = player-lines e is (h .good .spelled) in
       let own : linesOf playerCode 0 (e ++ (l ∷ [])) ≡ linesOf playerCode 0 e ++ ((s .line + 1) ∷ []) =
-          lines-snoc playerCode 0 e l ∙ ap (λ (v : Bool). linesOf playerCode 0 e ++ onlyIf v (0 + length e + 1)) (player-code-is row ∙ ap is001 (hi .0)) ∙ ap (λ (m : ℕ). linesOf playerCode 0 e ++ (m ∷ [])) ln-is in
+      lines-snoc playerCode 0 e l ∙ ap (λ (v : Bool). linesOf playerCode 0 e ++ onlyIf v (0 + length e + 1)) (player-code-is row ∙ ap is001 (hi .0)) ∙ ap (λ (m : ℕ). linesOf playerCode 0 e ++ (m ∷ [])) ln-is in
       record {
         items = is ++ (player p ∷ []);
         good = good-snoc e is l (player p) (h .good) sound hi new few;
@@ -414,20 +414,20 @@ agrees b long e l s h = go (all allowed (l .text)) (isEnded (l .end)) (ltb mostL
     known = lines-spelled .complete e (h .items) (h .good .spelled)
 
     -- the first fault of a line that has none of 3, 4, 5
-    row-fault : (u : Bool) (o : Option Item) → to lineNumber (cond u (some not-listed) (cond (not (isSome o)) (some bad-field) (cond (testAfter isAgain (some (h .items)) o) (some again) (cond (testAfter isTooMany (some (h .items)) o) (some too-many) none)))) ≡ rowFault u (h .items) o
+    row-fault : (u : Bool) (o : Option Item) → to lineFaultNumber (cond u (some not-listed) (cond (not (isSome o)) (some bad-field) (cond (testAfter isAgain (some (h .items)) o) (some again) (cond (testAfter isTooMany (some (h .items)) o) (some too-many) none)))) ≡ rowFault u (h .items) o
     row-fault true o = refl
     row-fault false none = refl
     row-fault false (some i) = at (isAgain (h .items) i) (isTooMany (h .items) i)
       where
-        at : (v w : Bool) → to lineNumber (cond v (some again) (cond w (some too-many) none)) ≡ cond v (some 8) (cond w (some 9) none)
+        at : (v w : Bool) → to lineFaultNumber (cond v (some again) (cond w (some too-many) none)) ≡ cond v (some 8) (cond w (some 9) none)
         at true w = refl
         at false true = refl
         at false false = refl
 
     go : (x y z : Bool) → all allowed (l .text) ≡ x → isEnded (l .end) ≡ y → ltb mostLine (length row) ≡ z
         → Match (After b) (e ++ (l ∷ []))
-          (to lineNumber (cond (not x) (some bad-byte) (cond (not y) (some no-CR) (cond z (some too-long) (cond (isUnlisted (kindOf row)) (some not-listed) (cond (not (isSome (itemAs (kindOf row) row))) (some bad-field) (cond (testAfter isAgain (lineItems e) (itemAs (kindOf row) row)) (some again) (cond (testAfter isTooMany (lineItems e) (itemAs (kindOf row) row)) (some too-many) none))))))))
-          (refuseOr (not x) 3 s (refuseOr (not y) 4 s (refuseOr z 5 s (stepRow (kindOf row) row s))))
+        (to lineFaultNumber (cond (not x) (some bad-byte) (cond (not y) (some no-CR) (cond z (some too-long) (cond (isUnlisted (kindOf row)) (some not-listed) (cond (not (isSome (itemAs (kindOf row) row))) (some bad-field) (cond (testAfter isAgain (lineItems e) (itemAs (kindOf row) row)) (some again) (cond (testAfter isTooMany (lineItems e) (itemAs (kindOf row) row)) (some too-many) none))))))))
+        (refuseOr (not x) 3 s (refuseOr (not y) 4 s (refuseOr z 5 s (stepRow (kindOf row) row s))))
     go false y z p q r = (refl, (e, h))
     go true false z p q r = (refl, (e, h))
     go true true true p q r = (refl, (e, h))

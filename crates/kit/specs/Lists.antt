@@ -27,7 +27,7 @@ module _ {A : Type 0} where
   atMostOne [] = true
   atMostOne (x ∷ l) = isEmpty l
 
-  -- the only one of a list, or else d
+  -- the first of a list, or else d: of a list with at most one, the only one
   abbrev pub onlyOr : A → List A → A
   onlyOr d [] = d
   onlyOr d (x ∷ l) = x

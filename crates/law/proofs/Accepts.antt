@@ -25,7 +25,7 @@ use Rattle.law.specs.Tournament.{Player, Tournament, roundsIn, colourIn,
 use Rattle.law.specs.Entries.{Law, bye-or-game, mutual-pairing, fitting-results, one-U, keeps, statesSum}
 use Rattle.law.specs.Lawful.{LawfulPlayer, Sits, sharesEarlier, Lawful}
 use Rattle.law.specs.Spelling.{isSound, SpellsLine, isPast, SpellsFile}
-use Rattle.law.specs.Refusals.{linesOf, playerSeats, accelerationSeats, FileFault, incomplete, past-142, shared, unlawful, wrong-sum, fileFaults, isComplete, isFileFault, OfItems, Label, of-file, IsFault, fileNumber, lineLabels, labelsOf, labels}
+use Rattle.law.specs.Refusals.{linesOf, playerSeats, accelerationSeats, FileFault, incomplete, past-142, shared, unlawful, wrong-sum, fileFaults, isComplete, isFileFault, OfItems, Label, of-file, IsFault, fileFaultNumber, lineLabels, labelsOf, labels}
 use Rattle.law.proofs.Cut.{one-lines}
 use Rattle.law.proofs.Faults.{lines-spelled}
 use Rattle.law.proofs.LinesRead.{LinesGood, lines-good, good-lines}
@@ -45,7 +45,7 @@ pub record FileGood (is : List Item) : Type 0 where
 abbrev fileFaultAt : ℕ → FileFault
 fileFaultAt n = getD (incomplete ∷ past-142 ∷ unlawful bye-or-game ∷ unlawful mutual-pairing ∷ unlawful fitting-results ∷ unlawful one-U ∷ wrong-sum ∷ shared ∷ []) (n - 10) incomplete
 
-fault-again : (f : FileFault) → fileFaultAt (fileNumber f) ≡ f
+fault-again : (f : FileFault) → fileFaultAt (fileFaultNumber f) ≡ f
 fault-again incomplete = refl
 fault-again past-142 = refl
 fault-again shared = refl
@@ -55,7 +55,7 @@ fault-again (unlawful fitting-results) = refl
 fault-again (unlawful one-U) = refl
 fault-again wrong-sum = refl
 
-pub tested-file : (f : FileFault) → among (fileNumber f) (map fileNumber fileFaults) ≡ true
+pub tested-file : (f : FileFault) → among (fileFaultNumber f) (map fileFaultNumber fileFaults) ≡ true
 tested-file incomplete = refl
 tested-file past-142 = refl
 tested-file shared = refl
@@ -93,7 +93,7 @@ module _ (ls : List Line) (is : List Item) (h : Each SpellsLine ls is) where
     file-good n =
         let np = player-lines ls is h in
         let na = acceleration-lines ls is h in
-        let at = all-in fileNumber fileFaultAt fault-again (λ f. AllOf Not (of f)) fileFaults (flat-all-of Not of fileFaults n) in
+        let at = all-in fileFaultNumber fileFaultAt fault-again (λ f. AllOf Not (of f)) fileFaults (flat-all-of Not of fileFaults n) in
         record {
           complete = not-false (isComplete (tournamentOf is)) (file-not incomplete 0 0 (at incomplete (tested-file incomplete) .0));
           none-past = λ p r l a b. file-not past-142 p r (rounds-all Not past-142 ps (at past-142 (tested-file past-142)) p r (omega arith) a b);

@@ -19,7 +19,7 @@ use Rattle.law.specs.Lines.{allowed, Line, isEnded}
 use Rattle.law.specs.Columns.{rowOf}
 use Rattle.law.specs.Items.{Item, passed, text, rounds, colour, scoring, acceleration, player, Kind, passed-over, kept-text, 142-record, 152-record, 162-record, 250-record, 001-record, unlisted, kindOf, SpellsItem}
 use Rattle.law.specs.Spelling.{isSound, SpellsLine}
-use Rattle.law.specs.Refusals.{LineFault, bad-byte, no-CR, too-long, not-listed, bad-field, again, too-many, lineFaults, isAgain, isTooMany, After, IsLineFault, Label, at-line, IsFault, lineNumber, lineLabels}
+use Rattle.law.specs.Refusals.{LineFault, bad-byte, no-CR, too-long, not-listed, bad-field, again, too-many, lineFaults, isAgain, isTooMany, After, IsLineFault, Label, at-line, IsFault, lineFaultNumber, lineLabels}
 use Rattle.law.proofs.Faults.{lineItem, line, lines-spelled, isUnlisted}
 
 abbrev pub isNew : List Item → Item → Bool
@@ -69,7 +69,7 @@ module _ (so : List Item → Item → Bool) (before : List Line) (e : List Item)
 abbrev faultAt : ℕ → LineFault
 faultAt n = getD (bad-byte ∷ no-CR ∷ too-long ∷ not-listed ∷ bad-field ∷ again ∷ too-many ∷ []) (n - 3) bad-byte
 
-fault-again : (f : LineFault) → faultAt (lineNumber f) ≡ f
+fault-again : (f : LineFault) → faultAt (lineFaultNumber f) ≡ f
 fault-again bad-byte = refl
 fault-again no-CR = refl
 fault-again too-long = refl
@@ -78,7 +78,7 @@ fault-again bad-field = refl
 fault-again again = refl
 fault-again too-many = refl
 
-pub tested-line : (f : LineFault) → among (lineNumber f) (map lineNumber lineFaults) ≡ true
+pub tested-line : (f : LineFault) → among (lineFaultNumber f) (map lineFaultNumber lineFaults) ≡ true
 tested-line bad-byte = refl
 tested-line no-CR = refl
 tested-line too-long = refl
@@ -95,7 +95,7 @@ module _ (long : Bool) (file : List ℕ) (lines : List Line) where
   NoFault before ls = AllOf Not (lineLabels before ls)
 
   none-here : (before : List Line) (l : Line) → AllOf Not (map (λ f. at-line f before l) lineFaults) → (f : LineFault) → IsLineFault f before l → ⊥
-  none-here before l h f = all-in lineNumber faultAt fault-again (λ f. IsLineFault f before l → ⊥) lineFaults (map-all-of Not (λ f. at-line f before l) lineFaults h) f (tested-line f)
+  none-here before l h f = all-in lineFaultNumber faultAt fault-again (λ f. IsLineFault f before l → ⊥) lineFaults (map-all-of Not (λ f. at-line f before l) lineFaults h) f (tested-line f)
 
   pub lines-good : (ls before : List Line) (e : List Item) → Each SpellsLine before e → NoFault before ls → (is : List Item) × LinesGood e ls is
   lines-good [] before e he h = ([], record { sound = refl; spelled = tt; new = refl; few = refl })

@@ -7,7 +7,7 @@ use lib.Dec.{leb}
 use Rattle.kit.specs.Ascii.{ascii}
 use Rattle.kit.specs.Lists.{between, conj}
 use Rattle.types.specs.declared.Acceleration.{Acceleration}
-use Rattle.law.specs.Sizes.{mostRounds, mostPoints, mostStart}
+use Rattle.law.specs.Sizes.{mostRounds, mostPoints, isStart}
 use Rattle.law.specs.Columns.{Field, part, elseBlank, afterCode}
 use Rattle.law.specs.Fields.{SpellsNumber, SpellsPoints}
 
@@ -15,12 +15,12 @@ use Rattle.law.specs.Fields.{SpellsNumber, SpellsPoints}
 abbrev pub accelerationRules : Acceleration → List Bool
 accelerationRules a =
     between 1 mostPoints (a .points) ∷ between 1 mostRounds (a .«first_round») ∷ between 1 mostRounds (a .«last_round») ∷ leb (a .«first_round») (a .«last_round») ∷
-    between 1 mostStart (a .«first_start») ∷ between 1 mostStart (a .«last_start») ∷ leb (a .«first_start») (a .«last_start») ∷ []
+    isStart (a .«first_start») ∷ isStart (a .«last_start») ∷ leb (a .«first_start») (a .«last_start») ∷ []
 
 abbrev pub isAcceleration : Acceleration → Bool
 isAcceleration a = conj (accelerationRules a)
 
--- ---- the line: "columns 5-8 blank; 10-13 points; 15-17 and 19-21 first and last round; 23-26 and 28-31 first and last start number"
+-- ---- the line: "columns 5-8 blank; 10-13 points, not 0; 15-17 and 19-21 first and last round; 23-26 and 28-31 first and last start number"
 abbrev pub accelerationCode : List ℕ
 accelerationCode = ascii "250"
 

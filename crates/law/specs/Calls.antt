@@ -1,7 +1,7 @@
--- The three calls: what each leaves in the answer and in every lent cell. The public contracts cite these relations and nothing else.
+-- The three calls: what each leaves in the answer and in every lent cell. These relations are all that a public contract cites. A lent `&` table or file stays as it is by its type, so only what is lent as `&mut` has a before and an after.
 use mathlib.Core.Path.{_≡_}
 use mathlib.Core.Bool.{Bool, true, false, cond}
-use mathlib.Core.List.{List, [], _∷_}
+use mathlib.Core.List.{List, [], _∷_, map}
 use Prim.Native.Nat.{ℕ, _<_, _≤_}
 use lib.Dec.{eqb, leb}
 use lib.ListN.{length, getD}
@@ -15,7 +15,8 @@ use Rattle.law.specs.Lines.{End, cr}
 use Rattle.law.specs.Tournament.{Tournament}
 use Rattle.law.specs.Spelling.{SpellsFile}
 use Rattle.law.specs.Tables.{Tables, Lent, enough, enoughLent, contentOf, linesContent, zeros, HoldLent, answerOf}
-use Rattle.law.specs.Refusals.{Refusal, refusal, Outcome, refused, accepted, Judged}
+use Rattle.law.specs.Scoring.{letters}
+use Rattle.law.specs.Refusals.{too-short, Refusal, refusal, noRefusal, refusalOf, Outcome, refused, accepted, Judged}
 use Rattle.law.specs.Writing.{written, earnedBefore, accelerationFor}
 
 -- ---- the reader. "Every refusal [..] has zero in every part of its answer but number, line and round."
@@ -30,7 +31,7 @@ refusedAnswer x =
       accelerations = 0;
       text = 0;
       colour = 0;
-      values = 0 ∷ 0 ∷ 0 ∷ 0 ∷ 0 ∷ 0 ∷ [];
+      values = map (λ c. 0) letters;
     }
 
 -- "1 touches no table; 2 to 17 put zero in every listed cell."
@@ -60,7 +61,7 @@ pub data Denial : Type 0 where
   tables-short no-reading out-short no-place : Denial
 
 abbrev pub denialOf : Denial → Refusal
-denialOf tables-short = refusal 1 0 0
+denialOf tables-short = refusalOf too-short
 denialOf no-reading = refusal 18 0 0
 denialOf out-short = refusal 19 0 0
 denialOf no-place = refusal 20 0 0
@@ -105,7 +106,7 @@ pub record WriteDone (answer : Answer) (tables : Tables) (before : List ℕ) (r 
   pub file : List ℕ
   pub t : Tournament
   pub reading : Reading answer tables file t
-  pub says : r ≡ writtenAnswer (refusal 0 0 0) (length (written writerEnd t))
+  pub says : r ≡ writtenAnswer noRefusal (length (written writerEnd t))
   pub bytes : Holds 0 (length (written writerEnd t)) (λ i. getD (written writerEnd t) i 0) before after
 
 pub data Writes (answer : Answer) (tables : Tables) (before : List ℕ) (r : Written) (after : List ℕ) : Type 0 where
@@ -141,7 +142,7 @@ pub record AskDone (answer : Answer) (tables : Tables) (place round : ℕ) (r : 
   pub file : List ℕ
   pub t : Tournament
   pub reading : Reading answer tables file t
-  pub says : r ≡ scoreAnswer (refusal 0 0 0) (earnedBefore t place round) (accelerationFor t place round)
+  pub says : r ≡ scoreAnswer noRefusal (earnedBefore t place round) (accelerationFor t place round)
 
 pub data Asks (answer : Answer) (tables : Tables) (place : Place) (round : ℕ) (r : Score) : Type 0 where
   ask-refused : AskRefused answer tables (place .0) round r → Asks answer tables place round r

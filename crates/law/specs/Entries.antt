@@ -72,7 +72,7 @@ keeps t fitting-results place r =
 keeps t one-U place r =
     not (hasU r (playerAt t place) && any (hasU r) (take place (t .players)))
 
--- ---- "Worth: 1, W, +, F earn W; =, D, H earn D; 0, L earn L; -, Z earn A; U earns P."
+-- ---- "Worth: 1, W, +, F earn W; =, D, H earn D; 0, L earn L; -, Z earn A; U earns P." "No result code of this build earns X."
 unfoldable pub worth : Scoring → ℕ → ℕ
 worth s result =
     cond (among result (ascii "1W+F")) (s .win)

@@ -5,10 +5,10 @@ use mathlib.Core.List.{List, [], _∷_}
 use Prim.Native.Nat.{ℕ, _≤_, _<_}
 use lib.Dec.{eqb, leb}
 use lib.ListN.{length, getD, take}
-use Rattle.kit.specs.Lists.{between, all, any, among, isEmpty, eachAfter, flat}
+use Rattle.kit.specs.Lists.{all, any, among, isEmpty, eachAfter, flat}
 use Rattle.kit.specs.First.{AllOf}
 use Rattle.types.specs.declared.Acceleration.{Acceleration}
-use Rattle.law.specs.Sizes.{mostLine, mostPlayers, mostRounds, mostAccelerations, mostText, mostPoints, mostStart, mostRank}
+use Rattle.law.specs.Sizes.{mostLine, mostPlayers, mostRounds, mostAccelerations, mostText, mostPoints, isStart, isRank}
 use Rattle.law.specs.Lines.{allowed}
 use Rattle.law.specs.Columns.{width}
 use Rattle.law.specs.Text.{SpellsText, isName, ended, isRepeated}
@@ -29,9 +29,9 @@ pub record KeptLine (line : List ℕ) : Type 0 where
 
 -- a player by itself, in an event of R rounds
 pub record LawfulPlayer (R : ℕ) (p : Player) : Type 0 where
-  pub start : between 1 mostStart (p .start) ≡ true
+  pub start : isStart (p .start) ≡ true
   pub points : p .points ≤ mostPoints
-  pub rank : between 1 mostRank (p .rank) ≡ true
+  pub rank : isRank (p .rank) ≡ true
   pub kept-wide : length (p .kept) ≡ width keptField
   pub kept-clean : all allowed (p .kept) ≡ true
   pub kept : SpellsKept (p .kept)
@@ -47,10 +47,10 @@ pub record Sits (t : Tournament) (place r : ℕ) : Type 0 where
 abbrev pub isTaken : List Player → Player → Bool
 isTaken before p = any (λ q. eqb (q .start) (p .start)) before
 
--- a record that shares a round and a start number with an earlier one
 abbrev pub noAcceleration : Acceleration
 noAcceleration = record { points = 0; «first_round» = 0; «last_round» = 0; «first_start» = 0; «last_start» = 0 }
 
+-- a record that shares a round and a start number with an earlier one
 abbrev pub sharesEarlier : List Acceleration → ℕ → Bool
 sharesEarlier records j = any (shares (getD records j noAcceleration)) (take j records)
 

@@ -13,7 +13,7 @@ CR = 13
 abbrev pub LF : ℕ
 LF = 10
 
--- "Other bytes below 32, and 127, are not allowed."
+-- "Other bytes below 32, and 127, are not allowed." A byte is a number up to 255
 abbrev pub allowed : ℕ → Bool
 allowed c = between 32 255 c && not (eqb c 127)
 
@@ -53,7 +53,7 @@ abbrev pub AreLines : List Line → Type 0
 AreLines [] = Unit {0}
 AreLines (l ∷ after) = (hasNoCR (l .text) ≡ true) × Follows (l .end) (l .text) after × AreLines after
 
--- the lines of a file. "Lines count from 1, passed-over ones too; an empty file has none."
+-- the lines of a file; "an empty file has none"
 pub record Lines (file : List ℕ) (lines : List Line) : Type 0 where
   pub bytes : file ≡ joined lines
   pub are : AreLines lines

@@ -7,7 +7,7 @@ use Prim.Native.Char.{code}
 use lib.ListN.{replicate}
 use Rattle.kit.specs.Ascii.{ascii}
 use Rattle.kit.specs.Lists.{between, all, among, isOneOf, from, flat, Each}
-use Rattle.law.specs.Sizes.{mostRounds, mostStart, mostRank}
+use Rattle.law.specs.Sizes.{mostRounds, isStart, isRank}
 use Rattle.law.specs.Columns.{Field, blank, isBlank, col, part, column, elseBlank, afterCode}
 use Rattle.law.specs.Fields.{SpellsNumber, SpellsPoints, SpellsNumberOrBlank, hasShape}
 
@@ -15,9 +15,6 @@ abbrev pub playerCode : List ℕ
 playerCode = ascii "001"
 
 -- ---- "The 70 columns 10-79 are kept byte by byte."
-abbrev pub keptField : Field
-keptField = (10, 79)
-
 abbrev pub sexField : Field
 sexField = column 10
 
@@ -38,6 +35,9 @@ fideField = (58, 68)
 
 abbrev pub birthField : Field
 birthField = (70, 79)
+
+abbrev pub keptField : Field
+keptField = (sexField .0, birthField .1)
 
 abbrev pub keptFields : List Field
 keptFields = sexField ∷ titleField ∷ nameField ∷ ratingField ∷ federationField ∷ fideField ∷ birthField ∷ []
@@ -144,11 +144,11 @@ playerFields = startField ∷ keptField ∷ pointsField ∷ rankField ∷ flat r
 
 pub record SpellsPlayer (row : List ℕ) (p : PlayerLine) : Type 0 where
   pub start : SpellsNumber (part startField row) (p .start)
-  pub start-in : between 1 mostStart (p .start) ≡ true
+  pub start-in : isStart (p .start) ≡ true
   pub kept : p .kept ≡ part keptField row
   pub kept-is : SpellsKept (p .kept)
   pub points : SpellsPoints (part pointsField row) (p .points)
   pub rank : SpellsNumber (part rankField row) (p .rank)
-  pub rank-in : between 1 mostRank (p .rank) ≡ true
+  pub rank-in : isRank (p .rank) ≡ true
   pub slots : Each (SpellsSlot row) everyRound (p .slots)
   pub nothing-else : elseBlank afterCode playerFields row ≡ true

@@ -73,7 +73,7 @@ abbrev pub onlyIf : Bool → ℕ → List ℕ
 onlyIf true n = n ∷ []
 onlyIf false n = []
 
--- the numbers of the lines with a code, after n others
+-- the numbers of the lines with a code, after n others: "Lines count from 1, passed-over ones too"
 unfoldable pub linesOf : List ℕ → ℕ → List Line → List ℕ
 linesOf code n [] = []
 linesOf code n (l ∷ ls) = onlyIf (same (part codeField (rowOf (l .text))) code) (n + 1) ++ linesOf code (n + 1) ls
@@ -129,7 +129,7 @@ IsFault long file lines too-big = mostFile < length file
 IsFault long file lines (at-line f before l) = IsLineFault f before l
 IsFault long file lines (of-file f s r) = OfItems lines f (s .place) r
 
--- ---- number, line, round
+-- ---- number, line, round; an acceptance has zero in all three
 pub record Refusal : Type 0 where
   pub number : ℕ
   pub line : ℕ
@@ -138,30 +138,33 @@ pub record Refusal : Type 0 where
 abbrev pub refusal : ℕ → ℕ → ℕ → Refusal
 refusal number line round = record { number = number; line = line; round = round }
 
-abbrev pub lineNumber : LineFault → ℕ
-lineNumber bad-byte = 3
-lineNumber no-CR = 4
-lineNumber too-long = 5
-lineNumber not-listed = 6
-lineNumber bad-field = 7
-lineNumber again = 8
-lineNumber too-many = 9
+abbrev pub noRefusal : Refusal
+noRefusal = refusal 0 0 0
 
-abbrev pub fileNumber : FileFault → ℕ
-fileNumber incomplete = 10
-fileNumber past-142 = 11
-fileNumber (unlawful bye-or-game) = 12
-fileNumber (unlawful mutual-pairing) = 13
-fileNumber (unlawful fitting-results) = 14
-fileNumber (unlawful one-U) = 15
-fileNumber wrong-sum = 16
-fileNumber shared = 17
+abbrev pub lineFaultNumber : LineFault → ℕ
+lineFaultNumber bad-byte = 3
+lineFaultNumber no-CR = 4
+lineFaultNumber too-long = 5
+lineFaultNumber not-listed = 6
+lineFaultNumber bad-field = 7
+lineFaultNumber again = 8
+lineFaultNumber too-many = 9
+
+abbrev pub fileFaultNumber : FileFault → ℕ
+fileFaultNumber incomplete = 10
+fileFaultNumber past-142 = 11
+fileFaultNumber (unlawful bye-or-game) = 12
+fileFaultNumber (unlawful mutual-pairing) = 13
+fileFaultNumber (unlawful fitting-results) = 14
+fileFaultNumber (unlawful one-U) = 15
+fileFaultNumber wrong-sum = 16
+fileFaultNumber shared = 17
 
 abbrev pub refusalOf : Label → Refusal
 refusalOf too-short = refusal 1 0 0
 refusalOf too-big = refusal 2 0 0
-refusalOf (at-line f before l) = refusal (lineNumber f) (length before + 1) 0
-refusalOf (of-file f s r) = refusal (fileNumber f) (s .line) r
+refusalOf (at-line f before l) = refusal (lineFaultNumber f) (length before + 1) 0
+refusalOf (of-file f s r) = refusal (fileFaultNumber f) (s .line) r
 
 -- ---- "Order: 1, 2; then line by line in file order, each line tested for 3 to 9 in turn; then [the faults of the file]. Within one number the first
 -- player in file order counts, then the lowest round."

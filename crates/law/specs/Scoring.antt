@@ -1,4 +1,4 @@
--- 162, the scoring: what a win, a draw, a loss, an absence, a pairing-allocated bye and an unknown result are worth.
+-- 162, the scoring: what a win (W), a draw (D), a loss (L), an absence (A) and a pairing-allocated bye (P) are worth, and X, an unknown result.
 use mathlib.Core.Path.{_≡_}
 use mathlib.Core.Bool.{Bool, true, cond, _&&_, not}
 use mathlib.Core.List.{List, [], _∷_, map}
@@ -20,9 +20,6 @@ pub record Scoring : Type 0 where
   pub pairing : ℕ
   pub unknown : ℕ
 
-abbrev pub letters : List ℕ
-letters = ascii "WDLAPX"
-
 -- all six with their letters, in that order
 abbrev pub stated : Scoring → List (ℕ × ℕ)
 stated s = (code "W", s .win) ∷ (code "D", s .draw) ∷ (code "L", s .loss) ∷ (code "A", s .absent) ∷ (code "P", s .pairing) ∷ (code "X", s .unknown) ∷ []
@@ -34,12 +31,15 @@ values s = map (λ (v : ℕ × ℕ). v .1) (stated s)
 abbrev pub defaults : Scoring
 defaults = record { win = 10; draw = 5; loss = 0; absent = 0; pairing = 10; unknown = 5 }
 
+abbrev pub letters : List ℕ
+letters = map (λ (v : ℕ × ℕ). v .0) (stated defaults)
+
 -- what is given for a letter, or else d
 abbrev pub givenOr : ℕ → ℕ → List (ℕ × ℕ) → ℕ
 givenOr d letter [] = d
 givenOr d letter (v ∷ given) = cond (eqb letter (v .0)) (v .1) (givenOr d letter given)
 
--- "A letter that is not given keeps its default. The same defaults hold with no 162."
+-- "A letter that is not given keeps its default [..]. The same defaults hold with no 162."
 unfoldable pub scoringOf : List (ℕ × ℕ) → Scoring
 scoringOf given =
     record {

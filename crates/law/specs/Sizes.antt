@@ -1,5 +1,7 @@
 -- What the box carries: the most of each thing. Each of these numbers of document 01 stands here and nowhere else.
+use mathlib.Core.Bool.{Bool}
 use Prim.Native.Nat.{ℕ}
+use Rattle.kit.specs.Lists.{between}
 
 -- bytes of a file
 abbrev pub mostFile : ℕ
@@ -31,6 +33,12 @@ mostPoints = 999
 abbrev pub mostStart : ℕ
 mostStart = 9999
 
+abbrev pub isStart : ℕ → Bool
+isStart n = between 1 mostStart n
+
 -- ranks are 1 to 9999
 abbrev pub mostRank : ℕ
 mostRank = 9999
+
+abbrev pub isRank : ℕ → Bool
+isRank n = between 1 mostRank n

@@ -20,10 +20,10 @@ isSound l = all allowed (l .text) && isEnded (l .end) && leb (length (rowOf (l .
 abbrev pub SpellsLine : Line → Item → Type 0
 SpellsLine l i = SpellsItem (rowOf (l .text)) i
 
--- a round's entry that is not blank, in a round past R
 abbrev pub noLine : PlayerLine
 noLine = record { start = 0; kept = []; points = 0; rank = 0; slots = [] }
 
+-- a round's entry that is not blank, in a round past R
 unfoldable pub isPast : List Item → ℕ → ℕ → Bool
 isPast items place r = ltb (roundsOf items) r && slotAt r (getD (flat playerIn items) place noLine) .used
 

@@ -35,8 +35,8 @@ pub record Lent : Type 0 where
   pub tables : Tables
   pub lines : List ℕ
 
--- ---- sizes: "start numbers, points and ranks (200 each), kept columns (14,000 bytes), opponents, colours and results (4,000 each), text (2,048),
--- acceleration (32), and a list of line numbers (200 players, then 32 acceleration records)"
+-- ---- sizes: "start numbers, points and ranks (200 each), kept columns (14,000 bytes), opponents, colours and results (4,000 each, player by
+-- player), text (2,048), acceleration (32), and a list of line numbers (200 players, then 32 acceleration records)"
 abbrev pub keptCells : ℕ
 keptCells = mostPlayers * width keptField
 
@@ -78,7 +78,8 @@ pub record Content : Type 0 where
 abbrev pub cellsOf : List ℕ → ℕ → ℕ
 cellsOf l i = getD l i 0
 
--- "In the three entry tables each player has twenty cells, the r-th for round r." The order of the cells is said here and nowhere else
+-- "In the three entry tables each player has twenty cells, the r-th for round r." The order of the cells is said in these three and nowhere else: the place
+-- and the round of a cell, and the cell of a place and a round
 abbrev pub cellOf : ℕ → ℕ → ℕ
 cellOf place r = place * mostRounds + (r - 1)
 

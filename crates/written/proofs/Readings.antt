@@ -21,7 +21,7 @@ use Rattle.law.specs.Tournament.{Tournament}
 use Rattle.law.specs.Lawful.{Lawful}
 use Rattle.law.specs.Spelling.{SpellsFile}
 use Rattle.law.specs.Tables.{Tables, Lent, lineCells, rooms, areLong, enough, enoughLent, contentOf, linesContent, HoldAll, HoldLent, answerOf}
-use Rattle.law.specs.Refusals.{Label, too-short, too-big, at-line, of-file, incomplete, past-142, shared, unlawful, wrong-sum, LineFault, bad-byte, no-CR, too-long, not-listed, bad-field, again, too-many, Refusal, refusal, refusalOf, Outcome, refused, accepted, Judged}
+use Rattle.law.specs.Refusals.{Label, too-short, too-big, at-line, of-file, incomplete, past-142, shared, unlawful, wrong-sum, LineFault, bad-byte, no-CR, too-long, not-listed, bad-field, again, too-many, Refusal, noRefusal, refusalOf, Outcome, refused, accepted, Judged}
 use Rattle.law.specs.Entries.{Law, bye-or-game, mutual-pairing, fitting-results, one-U}
 use Rattle.law.specs.Writing.{written, earnedBefore, accelerationFor}
 use Rattle.law.specs.Calls.{refusedAnswer, Leaves, Reads, Reading, Denial, denialOf, NoReading, writerEnd, WriterDenies, writerDenials, writtenAnswer, WriteRefused, WriteDone, Writes, write-refused, write-done, QuestionDenies, questionDenials, scoreAnswer, AskRefused, AskDone, Asks, ask-refused, ask-done}
@@ -145,7 +145,7 @@ writes-once answer tables before r s x y (write-refused a) (write-done b) = absu
 writes-once answer tables before r s x y (write-done a) (write-refused b) = absurd (none-first (WriterDenies answer tables (length before)) (a .no-denial) (b .first))
 writes-once answer tables before r s x y (write-done a) (write-done b) =
     let e = one-reading answer tables (a .file) (b .file) (a .t) (b .t) (a .reading) (b .reading) in (
-      a .says ∙ ap (λ (t : Tournament). writtenAnswer (refusal 0 0 0) (length (written writerEnd t))) e ∙ sym (b .says),
+      a .says ∙ ap (λ (t : Tournament). writtenAnswer noRefusal (length (written writerEnd t))) e ∙ sym (b .says),
       one-content 0 (length (written writerEnd (b .t))) (λ i. getD (written writerEnd (b .t)) i 0) before x y
           (subst (λ (t : Tournament). Holds 0 (length (written writerEnd t)) (λ i. getD (written writerEnd t) i 0) before x) e (a .bytes)) (b .bytes),
     )
@@ -159,4 +159,4 @@ asks-once answer tables place round r s (ask-refused a) (ask-done b) = absurd (n
 asks-once answer tables place round r s (ask-done a) (ask-refused b) = absurd (none-first (QuestionDenies answer tables (place .0) round) (a .no-denial) (b .first))
 asks-once answer tables place round r s (ask-done a) (ask-done b) =
     let e = one-reading answer tables (a .file) (b .file) (a .t) (b .t) (a .reading) (b .reading) in
-    a .says ∙ ap (λ (t : Tournament). scoreAnswer (refusal 0 0 0) (earnedBefore t (place .0) round) (accelerationFor t (place .0) round)) e ∙ sym (b .says)
+    a .says ∙ ap (λ (t : Tournament). scoreAnswer noRefusal (earnedBefore t (place .0) round) (accelerationFor t (place .0) round)) e ∙ sym (b .says)

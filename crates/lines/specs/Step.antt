@@ -1,0 +1,38 @@
+-- What a step of the cursor says: the lines of what is left are the line that it found and the lines from the next cursor on.
+use mathlib.Core.Path.{_≡_}
+use mathlib.Core.Bool.{false}
+use mathlib.Core.Option.{none}
+use mathlib.Core.List.{List, [], _∷_}
+use Prim.Native.Nat.{ℕ, suc, _-_, _≤_, _<_}
+use lib.ListN.{length, getD, take, drop}
+use Rattle.law.specs.Lines.{CR, startsWithLF}
+use Rattle.law.proofs.Cut.{cut, endFor}
+use Rattle.lines.specs.declared.Step.{Step}
+use Rattle.lines.specs.declared.Step.the-variants.{Whole, Broken, Done}
+
+-- r is the place of the first CR from at on, or the length
+pub record CRFrom (file : List ℕ) (at r : ℕ) : Type 0 where
+  pub after : at ≤ r
+  pub within : r ≤ length file
+  pub none-before : (k : ℕ) → k < r → at ≤ k → getD file k 0 ≡ CR → ⊥
+  pub there : r < length file → getD file r 0 ≡ CR
+
+-- a last line, without its terminator
+pub record BrokenAt (file : List ℕ) (at from to : ℕ) : Type 0 where
+  pub start : from ≡ at
+  pub stop : to ≡ length file
+  pub forward : at ≤ to
+  pub lines : cut false (drop at file) ≡ record { text = take (to - from) (drop from file); end = none } ∷ []
+
+-- a line with its terminator; next is the place past that
+pub record WholeAt (file : List ℕ) (at from to next : ℕ) : Type 0 where
+  pub start : from ≡ at
+  pub forward : at ≤ to
+  pub past : to < next
+  pub within : next ≤ length file
+  pub lines : cut false (drop at file) ≡ record { text = take (to - from) (drop from file); end = endFor (startsWithLF (drop (suc to) file)) } ∷ cut false (drop next file)
+
+unfoldable pub StepMeans : List ℕ → ℕ → Step → Type 0
+StepMeans file at Done = cut false (drop at file) ≡ []
+StepMeans file at (Broken from to) = BrokenAt file at from to
+StepMeans file at (Whole from to next) = WholeAt file at from to (next .at)
