@@ -65,7 +65,6 @@ CHANGES = [
     ("Heads", 'initialColours = ascii "WB"', 'initialColours = ascii "wb"'),
     ("Heads", 'roundsCode = ascii "142"', 'roundsCode = ascii "172"'),
     # 162
-    ("Scoring", 'letters = ascii "WDLAPX"', 'letters = ascii "WDLAPY"'),
     ("Scoring", '(code "P", s .pairing) ∷ (code "X", s .unknown)', '(code "X", s .pairing) ∷ (code "P", s .unknown)'),
     ("Scoring", "win = 10; draw = 5", "win = 10; draw = 6"),
     ("Scoring", "pairing = 10; unknown = 5", "pairing = 10; unknown = 6"),
@@ -88,7 +87,7 @@ CHANGES = [
     ("Accelerations", "(b .«last_round») && overlap", "(b .«last_round») || overlap"),
     ("Accelerations", "between (a .«first_start») (a .«last_start») start", "between (a .«first_start») (a .«last_start») round"),
     # 001
-    ("Players", "keptField = (10, 79)", "keptField = (10, 80)"),
+    ("Players", "keptField = (sexField .0, birthField .1)", "keptField = (sexField .0, 80)"),
     ("Players", "sexField = column 10", "sexField = column 11"),
     ("Players", "titleField = (11, 13)", "titleField = (12, 14)"),
     ("Players", "nameField = (15, 47)", "nameField = (14, 47)"),
@@ -110,8 +109,8 @@ CHANGES = [
     ("Players", "startField = (5, 8)", "startField = (5, 7)"),
     ("Players", "pointsField = (81, 84)", "pointsField = (80, 83)"),
     ("Players", "rankField = (86, 89)", "rankField = (86, 90)"),
-    ("Players", "between 1 mostStart (p .start)", "between 0 mostStart (p .start)"),
-    ("Players", "between 1 mostRank (p .rank)", "between 0 mostRank (p .rank)"),
+    ("Sizes", "isStart n = between 1 mostStart n", "isStart n = between 0 mostStart n"),
+    ("Sizes", "isRank n = between 1 mostRank n", "isRank n = between 0 mostRank n"),
     # items
     ("Items", 'same (part codeField row) (ascii "###")', 'same (part codeField row) (ascii "## ")'),
     ("Items", "isPassed row = all isBlank row ||", "isPassed row = all isBlank (part codeField row) ||"),
