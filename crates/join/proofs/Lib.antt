@@ -4,3 +4,5 @@ pub mod Runs
 pub mod Codes
 pub mod Keeps
 pub mod Steps
+pub mod Close
+pub mod Turns

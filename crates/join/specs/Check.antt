@@ -17,6 +17,7 @@ use Rattle.law.specs.Tournament.{Entry}
 use Rattle.law.specs.Entries.{isBye, fits, Law, bye-or-game, mutual-pairing, fitting-results, one-U}
 use Rattle.law.specs.Lawful.{noAcceleration}
 use Rattle.law.specs.Tables.{cellOf, placeIn, roundIn}
+use Rattle.law.specs.Refusals.{Refusal, refusal, fileFaultNumber, incomplete, past-142, shared, unlawful, wrong-sum}
 use Rattle.join.specs.Store.{Nine, Count, placeOf}
 use Rattle.join.specs.Grid.{firstFrom, mostFrom, sumFrom, someBelow}
 
@@ -97,3 +98,21 @@ sumAt v results place R = sumFrom (λ j. worthBy v (getD results (cellOf place (
 
 unfoldable pub wrongSum : List ℕ → List ℕ → List ℕ → ℕ → ℕ → Bool
 wrongSum v points results R place = not (eqb (getD points place 0) (sumAt v results place R))
+
+-- ---- the verdict: 10, 11, 17, 12 to 16. x: the tables before the closing pass, y: after it
+abbrev pub atPlayer : ℕ → List ℕ → ℕ → Refusal
+atPlayer number lines k = refusal number (getD lines (placeAt k) 0) (roundAt k)
+
+abbrev pub brokenBy : Law → ℕ → ℕ → Nine → Option Refusal
+brokenBy law n R y = to (atPlayer (fileFaultNumber (unlawful law)) (y .lines)) (firstFrom (brokenCell law n R y) 0 (n * mostRounds))
+
+unfoldable pub verdict : Count → ℕ → Nine → Nine → Option Refusal
+verdict c R x y =
+    orElse (cond (getD (c .seen) 0 false && ltb 0 (c .players)) none (some (refusal (fileFaultNumber incomplete) 0 0)))
+    (orElse (to (atPlayer (fileFaultNumber past-142) (x .lines)) (firstFrom (pastCell R (x .colours)) 0 (c .players * mostRounds)))
+    (orElse (to (λ j. refusal (fileFaultNumber shared) (getD (x .lines) (mostPlayers + j) 0) 0) (firstFrom (sharedRecord (c .records)) 0 (c .accelerations)))
+    (orElse (brokenBy bye-or-game (c .players) R y)
+    (orElse (brokenBy mutual-pairing (c .players) R y)
+    (orElse (brokenBy fitting-results (c .players) R y)
+    (orElse (brokenBy one-U (c .players) R y)
+    (to (λ p. refusal (fileFaultNumber wrong-sum) (getD (y .lines) p 0) 0) (firstFrom (wrongSum (c .values) (y .points) (y .results) R) 0 (c .players)))))))))
