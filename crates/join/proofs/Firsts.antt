@@ -10,7 +10,7 @@ use native.Mathlib.Omega.{arith}
 use lib.ListN.{length, getD, take}
 use lib.Seq.{getD-take, length-take-le}
 use Rattle.kit.specs.Lists.{any, first, from, top, sumOf}
-use Rattle.kit.specs.Decides.{to}
+use Rattle.kit.specs.Decides.{to, isSome}
 use Rattle.kit.proofs.Bools.{both-ways}
 use Rattle.kit.proofs.Lists.{top-low, top-past}
 use Rattle.join.specs.Grid.{firstFrom, mostFrom, sumFrom, someBelow}
@@ -178,3 +178,16 @@ any-before {A} t d l p h =
   where
     n : length (take p l) ≡ p
     n = length-take-le p l h
+
+-- ---- whether some element passes a test
+pub some-first : {A : Type 0} (t : A → Bool) (l : List A) → isSome (first t l) ≡ any t l
+some-first t [] = refl
+some-first t (x ∷ l) = go (t x) (some-first t l)
+  where
+    go : (v : Bool) → isSome (first t l) ≡ any t l → isSome (cond v (some x) (first t l)) ≡ v || any t l
+    go true e = refl
+    go false e = e
+
+pub to-some : {A B : Type 0} (f : A → B) (o : Option A) → isSome (to f o) ≡ isSome o
+to-some f none = refl
+to-some f (some x) = refl

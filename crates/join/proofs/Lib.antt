@@ -6,3 +6,6 @@ pub mod Keeps
 pub mod Steps
 pub mod Close
 pub mod Turns
+pub mod Checks
+pub mod Whole
+pub mod Verdict

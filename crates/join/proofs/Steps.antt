@@ -42,7 +42,7 @@ use Rattle.join.specs.Store.{Nine, Count, State, state, storePlayer, sto
 use Rattle.join.specs.Grid.{firstFrom}
 use Rattle.join.specs.Kept.{RawHold, CountedBy, Counted}
 use Rattle.join.proofs.Cells.{holds-snoc}
-use Rattle.join.proofs.Firsts.{first-as, first-at}
+use Rattle.join.proofs.Firsts.{first-as, first-at, some-first, to-some}
 use Rattle.join.proofs.Codes.{seenOf, repeated-is, seen-more}
 use Rattle.join.proofs.Keeps.{Long, lines-snoc, player-kept, plain-kept, text-kept, acceleration-kept}
 
@@ -293,18 +293,6 @@ module _ (b : Nine) (long : Long b) (e : List Line) (s : State) (h : After b e s
       go : (m : List ℕ) → AllOf (λ x. among x initialColours ≡ true) m → not (eqb (onlyOr 0 m) 0) ≡ not (isEmpty m)
       go [] f = refl
       go (x ∷ m) f = among-all (λ x. not (eqb x 0)) x initialColours (f .0) refl
-
-  some-first : {A : Type 0} (t : A → Bool) (m : List A) → isSome (first t m) ≡ any t m
-  some-first t [] = refl
-  some-first t (x ∷ m) = go (t x) (some-first t m)
-    where
-      go : (v : Bool) → isSome (first t m) ≡ any t m → isSome (cond v (some x) (first t m)) ≡ v || any t m
-      go true e = refl
-      go false e = e
-
-  to-some : {A B : Type 0} (f : A → B) (o : Option A) → isSome (to f o) ≡ isSome o
-  to-some f none = refl
-  to-some f (some x) = refl
 
   start-again : (id : ℕ) → isSome (placeOf (s .tables .starts) (c .players) id) ≡ any (λ (q : PlayerLine). eqb (q .start) id) (flat playerIn is)
   unfolding placeOf

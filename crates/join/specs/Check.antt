@@ -1,4 +1,5 @@
 -- After the last line: the number of rounds, the closing pass and the checks, over counts and cells. Means: no part of the statement.
+use mathlib.Core.Path.{_≡_}
 use mathlib.Core.Bool.{Bool, true, false, cond, _&&_, _||_, not}
 use mathlib.Core.Option.{Option, none, some}
 use mathlib.Core.List.{List, [], _∷_}
@@ -9,6 +10,7 @@ use lib.ListN.{getD}
 use Rattle.kit.specs.Ascii.{ascii}
 use Rattle.kit.specs.Lists.{among}
 use Rattle.kit.specs.Decides.{isSome, to, orElse}
+use Rattle.kit.specs.Table.{Holds}
 use Rattle.types.specs.declared.Acceleration.{Acceleration}
 use Rattle.law.specs.Sizes.{mostPlayers, mostRounds}
 use Rattle.law.specs.Accelerations.{shares}
@@ -16,7 +18,7 @@ use Rattle.law.specs.Players.{gameColours, gameResults}
 use Rattle.law.specs.Tournament.{Entry}
 use Rattle.law.specs.Entries.{isBye, fits, Law, bye-or-game, mutual-pairing, fitting-results, one-U}
 use Rattle.law.specs.Lawful.{noAcceleration}
-use Rattle.law.specs.Tables.{cellOf, placeIn, roundIn}
+use Rattle.law.specs.Tables.{entryCells, cellOf, placeIn, roundIn}
 use Rattle.law.specs.Refusals.{Refusal, refusal, fileFaultNumber, incomplete, past-142, shared, unlawful, wrong-sum}
 use Rattle.join.specs.Store.{Nine, Count, placeOf}
 use Rattle.join.specs.Grid.{firstFrom, mostFrom, sumFrom, someBelow}
@@ -116,3 +118,15 @@ verdict c R x y =
     (orElse (brokenBy fitting-results (c .players) R y)
     (orElse (brokenBy one-U (c .players) R y)
     (to (λ p. refusal (fileFaultNumber wrong-sum) (getD (y .lines) p 0) 0) (firstFrom (wrongSum (c .values) (y .points) (y .results) R) 0 (c .players)))))))))
+
+-- y is x after the closing pass: a blank entry up to round R is a bye with `-` and `Z`
+pub record Closes (n R : ℕ) (x y : Nine) : Type 0 where
+  pub starts : y .starts ≡ x .starts
+  pub points : y .points ≡ x .points
+  pub ranks : y .ranks ≡ x .ranks
+  pub kept : y .kept ≡ x .kept
+  pub opponents : y .opponents ≡ x .opponents
+  pub colours : Holds 0 entryCells (λ i. closing n R (code "-") i (getD (x .colours) i 0)) (x .colours) (y .colours)
+  pub results : Holds 0 entryCells (λ i. closing n R (code "Z") i (getD (x .results) i 0)) (x .results) (y .results)
+  pub text : y .text ≡ x .text
+  pub lines : y .lines ≡ x .lines

@@ -3,10 +3,11 @@ use mathlib.Core.Path.{_≡_, refl, sym, ap, _∙_}
 use mathlib.Core.Bool.{Bool, true, false, _&&_}
 use mathlib.Core.List.{List, [], _∷_, _++_, append-nil}
 use Prim.Native.Nat.{ℕ, zero, suc, _+_, _-_}
+use native.Mathlib.Omega.{arith}
 use lib.ListN.{length, getD, drop, replicate}
 use Rattle.kit.specs.Lists.{all}
 use Rattle.kit.proofs.Bools.{and, both, all-same}
-use Rattle.law.specs.Columns.{blank, isBlank, padded, cells}
+use Rattle.law.specs.Columns.{blank, isBlank, padded, cells, col, part, width, column}
 use Rattle.law.proofs.FieldsRead.{blanks-all}
 
 pub length-padded : (w : ℕ) (l : List ℕ) → length (padded w l) ≡ w
@@ -81,3 +82,17 @@ module _ (f : ℕ → Bool) (of-blank : f blank ≡ true) where
   pub all-cells : (row : List ℕ) (i w : ℕ) → all f row ≡ true → all f (cells row i w) ≡ true
   unfolding cells
   all-cells row i w h = all-padded w (drop i row) (all-drop i row h)
+
+-- ---- one column
+cells-one : (row : List ℕ) (i : ℕ) → cells row i 1 ≡ getD row i blank ∷ []
+unfolding cells
+cells-one [] zero = refl
+cells-one [] (suc i) = refl
+cells-one (x ∷ row) zero = refl
+cells-one (x ∷ row) (suc i) = cells-one row i
+
+pub one-width : (c : ℕ) → width (column c) ≡ 1
+one-width c = omega arith
+
+pub column-cell : (row : List ℕ) (c : ℕ) → part (column c) row ≡ col row c ∷ []
+column-cell row c = ap (cells row (c - 1)) (one-width c) ∙ cells-one row (c - 1)

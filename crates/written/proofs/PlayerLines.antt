@@ -26,6 +26,7 @@ use Rattle.law.specs.Entries.{isBye, isAnother, isGame}
 use Rattle.law.specs.Lawful.{LawfulPlayer}
 use Rattle.law.specs.Writing.{Piece, blanks, filled, noughts, number, pointsText, idText, entryPieces, entriesFrom, playerLine, laid}
 use Rattle.law.proofs.FieldsRead.{blanks-all}
+use Rattle.law.proofs.ColumnLaws.{one-width, column-cell}
 use Rattle.written.proofs.Laid.{Ordered, endOf, fieldsOf, cells-past, Stands, pieces-stand, laid-else, laid-long, Rising, else-past, laid-all}
 use Rattle.written.proofs.Numbers.{with-blanks, filled-long, blanks-long, noughts-long, points-text, filled-allowed, replicate-allowed, points-allowed}
 
@@ -106,20 +107,8 @@ normal-again e g = go (eqb (e .id) 0) refl
     go false u = refl
 
 -- ---- one column
-cells-one : (row : List ℕ) (i : ℕ) → cells row i 1 ≡ getD row i blank ∷ []
-unfolding cells
-cells-one [] zero = refl
-cells-one [] (suc i) = refl
-cells-one (x ∷ row) zero = refl
-cells-one (x ∷ row) (suc i) = cells-one row i
-
-one-width : (c : ℕ) → width (column c) ≡ 1
-one-width c = omega arith
-
 column-is : (row : List ℕ) (c x : ℕ) → part (column c) row ≡ x ∷ [] → col row c ≡ x
-column-is row c x e =
-    let u : getD row (c - 1) blank ∷ [] ≡ x ∷ [] = sym (cells-one row (c - 1)) ∙ ap (cells row (c - 1)) (sym (one-width c)) ∙ e in
-    cc
+column-is row c x e = let u : col row c ∷ [] ≡ x ∷ [] = sym (column-cell row c) ∙ e in cc
 
 -- ---- a round that is written
 id-width : (r : ℕ) → width (idField r) ≡ 4
