@@ -9,3 +9,4 @@ pub mod Turns
 pub mod Checks
 pub mod Whole
 pub mod Verdict
+pub mod Reading

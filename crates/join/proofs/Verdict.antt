@@ -98,8 +98,8 @@ module _ (b : Nine) (ls : List Line) (s : State) (h : After b ls s) where
       go [] v r e f = rw e (rounds-seen rows few well (b .colours) (x .colours) (h .raw .colours))
       go (n ∷ m) v r e f = rw e f
 
-  -- ---- the tables after the closing pass
-  module _ (y : Nine) (k : Closes (c .players) (roundsFound c (x .colours)) x y) where
+  -- ---- the tables after the closing pass; N: the length of the file, which no label of the file as a whole looks at
+  module _ (N : ℕ) (y : Nine) (k : Closes (c .players) (roundsFound c (x .colours)) x y) where
     count-is : c .players ≡ length rows
     count-is = h .counted .players
 
@@ -164,7 +164,7 @@ module _ (b : Nine) (ls : List Line) (s : State) (h : After b ls s) where
     rs = linesOf accelerationCode 0 ls
 
     abbrev test : Label → Bool
-    test = testLabel true 0 (some is)
+    test = testLabel true N (some is)
 
     abbrev of : FileFault → List Label
     of = labelsOf (playerSeats ls) (accelerationSeats ls)
@@ -212,3 +212,174 @@ module _ (b : Nine) (ls : List Line) (s : State) (h : After b ls s) where
         let d = few in
         ap (λ (v : ℕ). refusal (fileFaultNumber f) v (roundAt k)) (ap (λ (w : List ℕ). getD w (placeAt k) 0) e ∙ player-line-at (placeAt k) (omega arith)))
         ∙ sym (by-turn f o)
+
+    -- ---- 10
+    complete-same : cond (getD (c .seen) 0 false && ltb 0 (c .players)) none (some (refusal (fileFaultNumber incomplete) 0 0)) ≡ firstOf incomplete
+    unfolding isFileFault tournamentOf
+    complete-same =
+        let q = h .counted in
+        ap₂ (λ (u : List Bool) (n : ℕ). cond (getD u 0 false && ltb 0 n) none (some (refusal (fileFaultNumber incomplete) 0 0))) (q .seen) (q .players)
+        ∙ ap (λ (v : Bool). cond (any isName (flat textIn is) && v) none (some (refusal (fileFaultNumber incomplete) 0 0))) (there rows)
+        ∙ go (any isName (flat textIn is) && not (isEmpty (map (playerOf R) rows)))
+      where
+        there : (l : List PlayerLine) → ltb 0 (length l) ≡ not (isEmpty (map (playerOf R) l))
+        there [] = refl
+        there (p ∷ l) = lt-ltb 0 (suc (length l)) (omega arith)
+
+        go : (v : Bool) → cond v none (some (refusal (fileFaultNumber incomplete) 0 0)) ≡ to refusalOf (cond (not v) (some (of-file incomplete nowhere 0)) none)
+        go true = refl
+        go false = refl
+
+    -- ---- 11
+    past-same : to (atPlayer (fileFaultNumber past-142) (x .lines)) (firstFrom (pastCell (roundsFound c (x .colours)) (x .colours)) 0 (c .players * mostRounds)) ≡ firstOf past-142
+    unfolding isFileFault isPast pastCell
+    past-same =
+        turn-same past-142 (pastCell (roundsFound c (x .colours)) (x .colours)) (x .lines) refl refl
+        (λ k l. ap₂ (λ (n : ℕ) (v : Bool). ltb n (roundAt k) && v) rounds-are (seen-cell rows few well (b .colours) (x .colours) (h .raw .colours) k l))
+
+    none-past : firstOf past-142 ≡ none → NonePast R rows
+    unfolding isFileFault isPast
+    none-past e p r l a d =
+        let f : ℕ → Bool = λ k. isFileFault is past-142 (placeAt k) (roundAt k) in
+        let n : ℕ = length rows * mostRounds in
+        let q : firstFrom f 0 n ≡ none = from-none (λ k. refusal (fileFaultNumber past-142) (getD ps (placeAt k) 0) (roundAt k)) (firstFrom f 0 n) (sym (by-turn past-142 refl) ∙ e) in
+        let k : ℕ = p * mostRounds + (r - 1) in
+        let i : placeAt k ≡ p = omega arith in
+        let j : roundAt k ≡ r = omega arith in
+        rw (i, j, lt-ltb R r a) at (first-none f 0 n q k (omega arith) (omega arith))
+      where
+        from-none : {B : Type 0} (f : ℕ → B) (o : Option ℕ) → to f o ≡ none → o ≡ none
+        from-none f none e = refl
+        from-none f (some k) e = no-some (sym e)
+
+    -- ---- 17
+    shared-same : to (λ j. refusal (fileFaultNumber shared) (getD (x .lines) (mostPlayers + j) 0) 0) (firstFrom (sharedRecord (c .records)) 0 (c .accelerations)) ≡ firstOf shared
+    unfolding isFileFault
+    shared-same =
+        let q = h .counted in
+        let m : ℕ = length (flat accelerationIn is) in
+        let fit = few-fits is (h .good .few) .accelerations in
+        let g : ℕ → Refusal = λ j. refusal (fileFaultNumber shared) (getD (x .lines) (mostPlayers + j) 0) 0 in
+        ap (λ (n : ℕ). to g (firstFrom (sharedRecord (c .records)) 0 n)) (q .accelerations)
+        ∙ ap (to g) (first-as (sharedRecord (c .records)) (λ j. isFileFault is shared j 0) 0 m (λ j _ l. shared-is (flat accelerationIn is) (c .records) fit (q .records .cells) j (omega arith)))
+        ∙ to-same g (λ j. refusal (fileFaultNumber shared) (getD rs j 0) 0) (firstFrom (λ j. isFileFault is shared j 0) 0 m)
+        (λ j w.
+        let u = first-under (λ j. isFileFault is shared j 0) 0 m j w in
+        let l = u .1 in
+        ap (λ (v : ℕ). refusal (fileFaultNumber shared) v 0) (record-line-at j (omega arith)))
+        ∙ sym (by-place shared rs m rs-long refl)
+
+    -- ---- 12 to 16, where no entry stands past R
+    module _ (past : NonePast R rows) where
+      cells : HoldCells t b y
+      cells = let d = held past in record { starts = d .starts; points = d .points; opponents = d .opponents; colours = d .colours; results = d .results }
+
+      players-long : length (t .players) ≡ length rows
+      unfolding tournamentOf
+      players-long = length-map rows (playerOf R)
+
+      rounds-long : t .rounds ≡ R
+      unfolding tournamentOf
+      rounds-long = refl
+
+      broken-same : (law : Law) → brokenBy law (c .players) (roundsFound c (x .colours)) y ≡ firstOf (unlawful law)
+      unfolding isFileFault brokenCell
+      broken-same law =
+          turn-same (unlawful law) (brokenCell law (c .players) (roundsFound c (x .colours)) y) (y .lines) (k .lines) refl
+          (λ j l.
+          let n = players-long in
+          let d = few in
+          ap₂ (λ (m : ℕ) (v : Bool). leb (roundAt j) m && not v) (rounds-are ∙ sym rounds-long)
+          (ap (λ (m : ℕ). keepsCell law m y (placeAt j) (roundAt j)) (count-is ∙ sym n) ∙ keeps-cell t b y (omega arith) cells law (placeAt j) (roundAt j) (omega arith) (omega arith) (omega arith)))
+
+      entries-long : (p : ℕ) → p < length rows → length (playerAt t p .entries) ≡ t .rounds
+      unfolding tournamentOf
+      entries-long p l =
+          let q : PlayerLine = getD rows p noLine in
+          let w : WellLine q = all-of-at WellLine noLine rows well p l in
+          let n = w .slots in
+          let d = small in
+          ap (λ (u : Player). length (u .entries)) (map-at (playerOf R) noLine noPlayer rows p l) ∙ length-map (take R (q .slots)) normal ∙ length-take-le R (q .slots) (omega arith)
+
+      values-same : c .values ≡ values (t .scoring)
+      unfolding tournamentOf
+      values-same = h .counted .values-are
+
+      sum-same : to (λ p. refusal (fileFaultNumber wrong-sum) (getD (y .lines) p 0) 0) (firstFrom (wrongSum (c .values) (y .points) (y .results) (roundsFound c (x .colours))) 0 (c .players)) ≡ firstOf wrong-sum
+      unfolding isFileFault
+      sum-same =
+          let g : ℕ → Refusal = λ p. refusal (fileFaultNumber wrong-sum) (getD (y .lines) p 0) 0 in
+          let n : ℕ = length rows in
+          let m = players-long in
+          let d = few in
+          let e = small in
+          ap (λ (j : ℕ). to g (firstFrom (wrongSum (c .values) (y .points) (y .results) (roundsFound c (x .colours))) 0 j)) count-is
+          ∙ ap (to g) (first-as (wrongSum (c .values) (y .points) (y .results) (roundsFound c (x .colours))) (λ p. isFileFault is wrong-sum p 0) 0 n
+          (λ p _ l.
+          ap₂ (λ (v : List ℕ) (r : ℕ). wrongSum v (y .points) (y .results) r p) values-same (rounds-are ∙ sym rounds-long)
+          ∙ sum-cell t b y (omega arith) cells p (omega arith) (entries-long p (omega arith)) (omega (arith, rounds-long))))
+          ∙ to-same g (λ p. refusal (fileFaultNumber wrong-sum) (getD ps p 0) 0) (firstFrom (λ p. isFileFault is wrong-sum p 0) 0 n)
+          (λ p w.
+          let u = first-under (λ p. isFileFault is wrong-sum p 0) 0 n p w in
+          let l = u .1 in
+          ap (λ (v : ℕ). refusal (fileFaultNumber wrong-sum) v 0) (ap (λ (z : List ℕ). getD z p 0) (k .lines) ∙ player-line-at p (omega arith)))
+          ∙ sym (by-place wrong-sum ps n ps-long refl)
+
+    -- ---- all of them, in order
+    in-order : to refusalOf (first test (flat of fileFaults))
+        ≡ orElse (firstOf incomplete) (orElse (firstOf past-142) (orElse (firstOf shared) (orElse (firstOf (unlawful bye-or-game)) (orElse (firstOf (unlawful mutual-pairing)) (orElse (firstOf (unlawful fitting-results)) (orElse (firstOf (unlawful one-U)) (firstOf wrong-sum)))))))
+    unfolding flat
+    in-order =
+        next incomplete (past-142 ∷ shared ∷ unlawful bye-or-game ∷ unlawful mutual-pairing ∷ unlawful fitting-results ∷ unlawful one-U ∷ wrong-sum ∷ [])
+        ∙ ap (orElse (firstOf incomplete))
+        (next past-142 (shared ∷ unlawful bye-or-game ∷ unlawful mutual-pairing ∷ unlawful fitting-results ∷ unlawful one-U ∷ wrong-sum ∷ [])
+        ∙ ap (orElse (firstOf past-142))
+        (next shared (unlawful bye-or-game ∷ unlawful mutual-pairing ∷ unlawful fitting-results ∷ unlawful one-U ∷ wrong-sum ∷ [])
+        ∙ ap (orElse (firstOf shared))
+        (next (unlawful bye-or-game) (unlawful mutual-pairing ∷ unlawful fitting-results ∷ unlawful one-U ∷ wrong-sum ∷ [])
+        ∙ ap (orElse (firstOf (unlawful bye-or-game)))
+        (next (unlawful mutual-pairing) (unlawful fitting-results ∷ unlawful one-U ∷ wrong-sum ∷ [])
+        ∙ ap (orElse (firstOf (unlawful mutual-pairing)))
+        (next (unlawful fitting-results) (unlawful one-U ∷ wrong-sum ∷ [])
+        ∙ ap (orElse (firstOf (unlawful fitting-results)))
+        (next (unlawful one-U) (wrong-sum ∷ []) ∙ ap (orElse (firstOf (unlawful one-U))) (next wrong-sum [] ∙ last (firstOf wrong-sum))))))))
+      where
+        next : (f : FileFault) (fs : List FileFault) → to refusalOf (first test (flat of (f ∷ fs))) ≡ orElse (firstOf f) (to refusalOf (first test (flat of fs)))
+        next f fs = ap (to refusalOf) (first-append test (of f) (flat of fs)) ∙ to-orElse refusalOf (first test (of f)) (first test (flat of fs))
+
+        last : (o : Option Refusal) → orElse o none ≡ o
+        last none = refl
+        last (some q) = refl
+
+    pub verdict-is : verdict c (roundsFound c (x .colours)) x y ≡ to refusalOf (first test (flat of fileFaults))
+    unfolding verdict
+    verdict-is = ap₂ orElse complete-same (ap₂ orElse past-same refl) ∙ go (firstOf incomplete) (firstOf past-142) refl ∙ sym in-order
+      where
+        later : Option Refusal
+        later =
+            orElse (to (λ j. refusal (fileFaultNumber shared) (getD (x .lines) (mostPlayers + j) 0) 0) (firstFrom (sharedRecord (c .records)) 0 (c .accelerations)))
+            (orElse (brokenBy bye-or-game (c .players) (roundsFound c (x .colours)) y)
+            (orElse (brokenBy mutual-pairing (c .players) (roundsFound c (x .colours)) y)
+            (orElse (brokenBy fitting-results (c .players) (roundsFound c (x .colours)) y)
+            (orElse (brokenBy one-U (c .players) (roundsFound c (x .colours)) y)
+            (to (λ p. refusal (fileFaultNumber wrong-sum) (getD (y .lines) p 0) 0) (firstFrom (wrongSum (c .values) (y .points) (y .results) (roundsFound c (x .colours))) 0 (c .players)))))))
+
+        go : (a d : Option Refusal) → firstOf past-142 ≡ d
+            → orElse a (orElse d later)
+            ≡ orElse a (orElse d (orElse (firstOf shared) (orElse (firstOf (unlawful bye-or-game)) (orElse (firstOf (unlawful mutual-pairing)) (orElse (firstOf (unlawful fitting-results)) (orElse (firstOf (unlawful one-U)) (firstOf wrong-sum)))))))
+        go (some q) d e = refl
+        go none (some q) e = refl
+        go none none e =
+            let past = none-past e in
+            ap₂ orElse shared-same
+            (ap₂ orElse (broken-same past bye-or-game)
+            (ap₂ orElse (broken-same past mutual-pairing) (ap₂ orElse (broken-same past fitting-results) (ap₂ orElse (broken-same past one-U) (sum-same past)))))
+
+    -- no fault: no entry past R, so the tables hold the tournament
+    pub no-verdict : verdict c (roundsFound c (x .colours)) x y ≡ none → Held
+    no-verdict e = held (none-past (second (firstOf incomplete) (firstOf past-142) _ (sym in-order ∙ sym verdict-is ∙ e)))
+      where
+        second : (a d o : Option Refusal) → orElse a (orElse d o) ≡ none → d ≡ none
+        second none none o e = refl
+        second none (some q) o e = no-some (sym e)
+        second (some q) d o e = no-some (sym e)
