@@ -29,7 +29,7 @@ use Rattle.law.specs.Refusals.{onlyIf, linesOf}
 use Rattle.law.proofs.LinesLawful.{LawfulLine}
 use Rattle.join.specs.Grid.{Order, putRow, entryIn}
 use Rattle.join.specs.Store.{Nine, Count, rawCells, storePlayer, storeText, storeLine, countPlayer, countText, countRounds, countColour, countScoring, countAcceleration, codePlace}
-use Rattle.join.specs.Kept.{rawGrid, RawHold, Counted}
+use Rattle.join.specs.Kept.{rawGrid, RawHold, Counted, Long}
 use Rattle.join.proofs.Cells.{holds-snoc, holds-append, first-grows, second-grows, grid-snoc}
 use Rattle.join.proofs.Codes.{seenOf}
 
@@ -43,18 +43,6 @@ by-player =
       place-in = λ i a. omega arith;
       round-in = λ i a. omega arith;
     }
-
--- the tables are long enough
-pub record Long (t : Nine) : Type 0 where
-  pub starts : mostPlayers ≤ length (t .starts)
-  pub points : mostPlayers ≤ length (t .points)
-  pub ranks : mostPlayers ≤ length (t .ranks)
-  pub kept : keptCells ≤ length (t .kept)
-  pub opponents : entryCells ≤ length (t .opponents)
-  pub colours : entryCells ≤ length (t .colours)
-  pub results : entryCells ≤ length (t .results)
-  pub text : mostText ≤ length (t .text)
-  pub lines : lineCells ≤ length (t .lines)
 
 -- ---- line numbers after one more line
 pub lines-snoc : (code : List ℕ) (n : ℕ) (e : List Line) (l : Line) → linesOf code n (e ++ (l ∷ [])) ≡ linesOf code n e ++ onlyIf (same (part codeField (rowOf (l .text))) code) (n + length e + 1)

@@ -29,28 +29,16 @@ use Rattle.law.proofs.LinesRead.{LinesGood}
 use Rattle.law.proofs.Judges.{outcomeOf, outcomeBy, acceptedAs, judged}
 use Rattle.join.specs.Run.{Way, on, stop, runAll, firstAll, Match}
 use Rattle.join.specs.Store.{Nine, Count, State, state, noCount, stepLine}
-use Rattle.join.specs.Kept.{RawHold, CountedBy, Counted}
+use Rattle.join.specs.Kept.{RawHold, CountedBy, Counted, Long, Zeroed}
 use Rattle.join.specs.Check.{roundsFound, verdict, Closes}
 use Rattle.join.proofs.Cells.{holds-as}
 use Rattle.join.proofs.Runs.{runs}
 use Rattle.join.proofs.Codes.{seenOf}
-use Rattle.join.proofs.Keeps.{Long}
 use Rattle.join.proofs.Steps.{After, faultOf, agrees}
 use Rattle.join.proofs.Whole.{atLine, line-firsts, to-orElse}
 use Rattle.join.proofs.Verdict.{Held, verdict-is, no-verdict}
 
 -- ---- cleared tables
-pub record Zeroed (b x : Nine) : Type 0 where
-  pub starts : Holds 0 mostPlayers (λ i. 0) (b .starts) (x .starts)
-  pub points : Holds 0 mostPlayers (λ i. 0) (b .points) (x .points)
-  pub ranks : Holds 0 mostPlayers (λ i. 0) (b .ranks) (x .ranks)
-  pub kept : Holds 0 keptCells (λ i. 0) (b .kept) (x .kept)
-  pub opponents : Holds 0 entryCells (λ i. 0) (b .opponents) (x .opponents)
-  pub colours : Holds 0 entryCells (λ i. 0) (b .colours) (x .colours)
-  pub results : Holds 0 entryCells (λ i. 0) (b .results) (x .results)
-  pub text : Holds 0 mostText (λ i. 0) (b .text) (x .text)
-  pub lines : Holds 0 lineCells (λ i. 0) (b .lines) (x .lines)
-
 nothing-at : (i : ℕ) → _≡_ {A = ℕ} 0 (getD [] i 0)
 nothing-at zero = refl
 nothing-at (suc i) = refl

@@ -40,11 +40,11 @@ use Rattle.law.proofs.Seats.{player-lines, acceleration-lines, is001, is250, pl
 use Rattle.join.specs.Run.{Way, on, stop, Match}
 use Rattle.join.specs.Store.{Nine, Count, State, state, storePlayer, storeText, storeLine, countPlayer, countText, countRounds, countColour, countScoring, countAcceleration, codePlace, placeOf, refuseOr, stepText, stepRounds, stepColour, stepScoring, stepAcceleration, stepPlayer, stepRow, stepLine}
 use Rattle.join.specs.Grid.{firstFrom}
-use Rattle.join.specs.Kept.{RawHold, CountedBy, Counted}
+use Rattle.join.specs.Kept.{RawHold, CountedBy, Counted, Long}
 use Rattle.join.proofs.Cells.{holds-snoc}
 use Rattle.join.proofs.Firsts.{first-as, first-at, some-first, to-some}
 use Rattle.join.proofs.Codes.{seenOf, repeated-is, seen-more}
-use Rattle.join.proofs.Keeps.{Long, lines-snoc, player-kept, plain-kept, text-kept, acceleration-kept}
+use Rattle.join.proofs.Keeps.{lines-snoc, player-kept, plain-kept, text-kept, acceleration-kept}
 
 -- the state after some lines
 pub record After (b : Nine) (e : List Line) (s : State) : Type 0 where

@@ -46,13 +46,12 @@ use Rattle.law.proofs.Judges.{outcomeOf, outcomeBy, judged}
 use Rattle.join.specs.Run.{Way, on, stop, runAll, firstAll, Match}
 use Rattle.join.specs.Grid.{firstFrom}
 use Rattle.join.specs.Store.{Nine, Count, State, state, noCount, stepLine, rawCells}
-use Rattle.join.specs.Kept.{rawGrid, RawHold, CountedBy, Counted}
+use Rattle.join.specs.Kept.{rawGrid, RawHold, CountedBy, Counted, Long}
 use Rattle.join.specs.Check.{placeAt, roundAt, isSeen, roundsFound, roundsSeen, pastCell, sharedRecord, closing, keepsCell, brokenCell, wrongSum, atPlayer, brokenBy, verdict}
 use Rattle.join.proofs.Cells.{holds-as, holds-then}
 use Rattle.join.proofs.Firsts.{first-as, first-listed, first-under, first-none, any-of}
 use Rattle.join.proofs.Runs.{runs}
 use Rattle.join.proofs.Codes.{seenOf, named-is}
-use Rattle.join.proofs.Keeps.{Long}
 use Rattle.join.proofs.Steps.{After, faultOf, agrees}
 use Rattle.join.proofs.Close.{WellSlot, WellLine, theBye, normal-colour, normal-result, NonePast, closed, closing-zero, seen-cell, rounds-seen, map-at}
 use Rattle.join.proofs.Turns.{rounds-listed, places-listed}

@@ -2,7 +2,7 @@
 use mathlib.Core.Path.{_≡_}
 use mathlib.Core.Bool.{Bool, true, false, not}
 use mathlib.Core.List.{List, [], _∷_, map}
-use Prim.Native.Nat.{ℕ}
+use Prim.Native.Nat.{ℕ, _≤_}
 use lib.ListN.{length, getD, replicate}
 use Rattle.kit.specs.Lists.{isEmpty, flat, onlyOr}
 use Rattle.kit.specs.Table.{Holds}
@@ -24,6 +24,30 @@ use Rattle.join.specs.Store.{Nine, Count, State, rawCells}
 
 abbrev pub rawGrid : (Entry → ℕ) → List PlayerLine → ℕ → ℕ
 rawGrid part rows i = entryIn part noEntry (map rawCells rows) (placeIn i) (roundIn i)
+
+-- every table has its cells
+pub record Long (t : Nine) : Type 0 where
+  pub starts : mostPlayers ≤ length (t .starts)
+  pub points : mostPlayers ≤ length (t .points)
+  pub ranks : mostPlayers ≤ length (t .ranks)
+  pub kept : keptCells ≤ length (t .kept)
+  pub opponents : entryCells ≤ length (t .opponents)
+  pub colours : entryCells ≤ length (t .colours)
+  pub results : entryCells ≤ length (t .results)
+  pub text : mostText ≤ length (t .text)
+  pub lines : lineCells ≤ length (t .lines)
+
+-- the tables when nothing is read yet
+pub record Zeroed (b x : Nine) : Type 0 where
+  pub starts : Holds 0 mostPlayers (λ i. 0) (b .starts) (x .starts)
+  pub points : Holds 0 mostPlayers (λ i. 0) (b .points) (x .points)
+  pub ranks : Holds 0 mostPlayers (λ i. 0) (b .ranks) (x .ranks)
+  pub kept : Holds 0 keptCells (λ i. 0) (b .kept) (x .kept)
+  pub opponents : Holds 0 entryCells (λ i. 0) (b .opponents) (x .opponents)
+  pub colours : Holds 0 entryCells (λ i. 0) (b .colours) (x .colours)
+  pub results : Holds 0 entryCells (λ i. 0) (b .results) (x .results)
+  pub text : Holds 0 mostText (λ i. 0) (b .text) (x .text)
+  pub lines : Holds 0 lineCells (λ i. 0) (b .lines) (x .lines)
 
 -- the tables before the closing pass, of the lines e and the items that they spell
 pub record RawHold (e : List Line) (is : List Item) (b x : Nine) : Type 0 where

@@ -1,0 +1,157 @@
+// The lent tables: whether they are long enough, clearing them, and storing what a line says. Nothing else makes an index of a place, and nothing else
+// knows the order of the cells. Promised: what each lent cell holds afterwards.
+ghost use mathlib.Core.Path.{_≡_};
+ghost use mathlib.Core.List.{[], _∷_};
+ghost use Prim.Native.Nat.{_+_, _*_, _≤_, _<_};
+ghost use lib.ListN.{length, set};
+ghost use lib.Seq.{paste};
+ghost use Rattle.law.specs.Sizes.{mostPlayers, mostRounds, mostAccelerations, mostText};
+ghost use Rattle.law.specs.Columns.{width};
+ghost use Rattle.law.specs.Players.{keptField};
+ghost use Rattle.law.specs.Tables.{keptCells, entryCells, lineCells, cellOf, areLong};
+ghost use Rattle.join.specs.Grid.{putRow};
+ghost use Rattle.join.specs.Kept.{Long, Zeroed};
+ghost use Rattle.tables.specs.Lent.{lent, before, after};
+use cells::KEPT_COLUMNS;
+use cells::MOST_ROUNDS;
+use types::LineNumber;
+use types::Place;
+
+// The listed sizes.
+const PLAYERS: usize = 200;
+
+const ENTRIES: usize = PLAYERS * MOST_ROUNDS;
+
+const KEPT: usize = PLAYERS * KEPT_COLUMNS;
+
+const TEXT: usize = 2048;
+
+const ACCELERATIONS: usize = 32;
+
+const LINES: usize = PLAYERS + ACCELERATIONS;
+
+// Whether tables of these lengths are long enough.
+pub fn enough(
+    starts: usize,
+    points: usize,
+    ranks: usize,
+    kept: usize,
+    opponents: usize,
+    colours: usize,
+    results: usize,
+    text: usize,
+    accelerations: usize,
+    lines: usize,
+) -> bool
+    ensures { λ r. ⌜ r ≡ areLong ((lineCells, lines) ∷ (mostPlayers, starts) ∷ (mostPlayers, points) ∷ (mostPlayers, ranks) ∷ (keptCells, kept) ∷ (entryCells, opponents) ∷ (entryCells, colours) ∷ (entryCells, results) ∷ (mostText, text) ∷ (mostAccelerations, accelerations) ∷ []) ⌝ }
+{
+    (LINES <= lines)
+        & (PLAYERS <= starts)
+        & (PLAYERS <= points)
+        & (PLAYERS <= ranks)
+        & (KEPT <= kept)
+        & (ENTRIES <= opponents)
+        & (ENTRIES <= colours)
+        & (ENTRIES <= results)
+        & (TEXT <= text)
+        & (ACCELERATIONS <= accelerations)
+}
+
+// Zero in every listed cell.
+pub fn clear(
+    starts: &mut [u32],
+    points: &mut [u32],
+    ranks: &mut [u32],
+    kept: &mut [u8],
+    opponents: &mut [u32],
+    colours: &mut [u8],
+    results: &mut [u8],
+    text: &mut [u8],
+    lines: &mut [u32],
+)
+    requires { ⌜ Long (lent starts points ranks kept opponents colours results text lines) ⌝ }
+    ensures { λ _. ⌜ Zeroed (before starts points ranks kept opponents colours results text lines) (after starts points ranks kept opponents colours results text lines) ⌝ }
+{
+    cells::zero_numbers(starts, PLAYERS);
+    cells::zero_numbers(points, PLAYERS);
+    cells::zero_numbers(ranks, PLAYERS);
+    cells::zero_bytes(kept, KEPT);
+    cells::zero_numbers(opponents, ENTRIES);
+    cells::zero_bytes(colours, ENTRIES);
+    cells::zero_bytes(results, ENTRIES);
+    cells::zero_bytes(text, TEXT);
+    cells::zero_numbers(lines, LINES);
+}
+
+// The cell of a player in a table that has one for each.
+pub fn own_cell(place: Place) -> usize
+    requires { ⌜ place .0 < mostPlayers ⌝ }
+    ensures { λ i. ⌜ (i ≡ place .0) × (i < mostPlayers) ⌝ }
+{
+    place.0 as usize
+}
+
+// The cell of a player and a round in an entry table.
+pub fn cell_of(place: Place, round: u32) -> usize
+    requires { ⌜ (place .0 < mostPlayers) × (1 ≤ round) × (round ≤ mostRounds) ⌝ }
+    ensures { λ i. ⌜ (i ≡ cellOf (place .0) round) × (i < entryCells) ⌝ }
+{
+    place.0 as usize * MOST_ROUNDS + (round as usize - 1)
+}
+
+// A player's start number, points or rank.
+pub fn store_number(t: &mut [u32], place: Place, v: u32)
+    requires { ⌜ (place .0 < mostPlayers) × (mostPlayers ≤ length (now t)) ⌝ }
+    ensures { λ _. ⌜ now (t .exit) ≡ set (now (t .entry)) (place .0) v ⌝ }
+{
+    t[place.0 as usize] = v;
+}
+
+// A player's kept columns.
+pub fn store_kept(t: &mut [u8], place: Place, kept: [u8; KEPT_COLUMNS])
+    requires { ⌜ (place .0 < mostPlayers) × (keptCells ≤ length (now t)) ⌝ }
+    ensures { λ _. ⌜ now (t .exit) ≡ paste (now (t .entry)) (place .0 * width keptField) kept (width keptField) ⌝ }
+{
+    cells::put_kept(t, place.0 as usize * KEPT_COLUMNS, kept);
+}
+
+// A player's opponents, round by round; and his colours, or results.
+pub fn store_numbers(t: &mut [u32], place: Place, row: [u32; MOST_ROUNDS])
+    requires { ⌜ (place .0 < mostPlayers) × (entryCells ≤ length (now t)) ⌝ }
+    ensures { λ _. ⌜ now (t .exit) ≡ putRow cellOf (now (t .entry)) (place .0) row mostRounds ⌝ }
+{
+    let mut j = 0;
+    while j < MOST_ROUNDS {
+        let i = cell_of(place, j as u32 + 1);
+        t[i] = row[j];
+        j += 1;
+    }
+}
+
+pub fn store_letters(t: &mut [u8], place: Place, row: [u8; MOST_ROUNDS])
+    requires { ⌜ (place .0 < mostPlayers) × (entryCells ≤ length (now t)) ⌝ }
+    ensures { λ _. ⌜ now (t .exit) ≡ putRow cellOf (now (t .entry)) (place .0) row mostRounds ⌝ }
+{
+    let mut j = 0;
+    while j < MOST_ROUNDS {
+        let i = cell_of(place, j as u32 + 1);
+        t[i] = row[j];
+        j += 1;
+    }
+}
+
+// The line of a player.
+pub fn store_line(t: &mut [u32], place: Place, line: LineNumber)
+    requires { ⌜ (place .0 < mostPlayers) × (lineCells ≤ length (now t)) ⌝ }
+    ensures { λ _. ⌜ now (t .exit) ≡ set (now (t .entry)) (place .0) (line .0) ⌝ }
+{
+    t[place.0 as usize] = line.0;
+}
+
+// The line of an acceleration record.
+pub fn store_record_line(t: &mut [u32], number: usize, line: LineNumber)
+    requires { ⌜ (number < mostAccelerations) × (lineCells ≤ length (now t)) ⌝ }
+    ensures { λ _. ⌜ now (t .exit) ≡ set (now (t .entry)) (mostPlayers + number) (line .0) ⌝ }
+{
+    t[PLAYERS + number] = line.0;
+}
