@@ -1,0 +1,5 @@
+pub mod Columns
+pub mod Turns
+pub mod Trims
+pub mod Means
+pub mod Cases

@@ -1,0 +1,4 @@
+pub mod Keys
+pub mod Codes
+pub mod Heads
+pub mod Accelerations
