@@ -3,10 +3,11 @@
 ghost use mathlib.Core.Path.{_≡_};
 ghost use mathlib.Core.List.{[], _∷_};
 ghost use Prim.Native.Nat.{_+_, _*_, _≤_, _<_};
-ghost use lib.ListN.{length, set};
+ghost use lib.ListN.{length, set, take};
 ghost use lib.Seq.{paste};
 ghost use Rattle.law.specs.Sizes.{mostPlayers, mostRounds, mostAccelerations, mostText};
 ghost use Rattle.law.specs.Columns.{width};
+ghost use Rattle.law.specs.Text.{ended};
 ghost use Rattle.law.specs.Players.{keptField};
 ghost use Rattle.law.specs.Tables.{keptCells, entryCells, lineCells, cellOf, areLong};
 ghost use Rattle.join.specs.Grid.{putRow};
@@ -29,6 +30,8 @@ const TEXT: usize = 2048;
 const ACCELERATIONS: usize = 32;
 
 const LINES: usize = PLAYERS + ACCELERATIONS;
+
+const CR: u8 = 13;
 
 // Whether tables of these lengths are long enough.
 pub fn enough(
@@ -154,4 +157,13 @@ pub fn store_record_line(t: &mut [u32], number: usize, line: LineNumber)
     ensures { λ _. ⌜ now (t .exit) ≡ set (now (t .entry)) (mostPlayers + number) (line .0) ⌝ }
 {
     t[PLAYERS + number] = line.0;
+}
+
+// A kept text line, the first n bytes of a line of the file, ended by one CR.
+pub fn store_text(t: &mut [u8], at: usize, line: &[u8], n: usize)
+    requires { ⌜ (at + n < length (now t)) × (n ≤ length (now line)) ⌝ }
+    ensures { λ _. ⌜ now (t .exit) ≡ paste (now (t .entry)) at (ended (take n (now (line .entry)))) (n + 1) ⌝ }
+{
+    cells::put_bytes(t, at, line, n);
+    t[at + n] = CR;
 }
