@@ -82,7 +82,7 @@ pub text-by-tests : (row : List ℕ) (gap name : Bool) → isBlank (col row afte
 text-by-tests row g n p q = rw (p, q) refl
 
 -- ---- the kind by its tests
-abbrev kindBy : Bool → Bool → Bool → Bool → Bool → Bool → Bool → Kind
+abbrev pub kindBy : Bool → Bool → Bool → Bool → Bool → Bool → Bool → Kind
 kindBy passed text rounds colour scoring acceleration player =
     cond passed passed-over (cond text kept-text (cond rounds 142-record (cond colour 152-record (cond scoring 162-record (cond acceleration 250-record (cond player 001-record unlisted))))))
 

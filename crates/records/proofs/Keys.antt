@@ -18,7 +18,7 @@ key-among (k ∷ []) l c h e = ap (λ (x : ℕ). among x l) h ∙ and (among k l
 key-among (k ∷ j ∷ ks) l c (inl h) e = ap (λ (x : ℕ). among x l) h ∙ and (among k l) (all (λ k. among k l) (j ∷ ks)) e .0
 key-among (k ∷ j ∷ ks) l c (inr h) e = key-among (j ∷ ks) l c h (and (among k l) (all (λ k. among k l) (j ∷ ks)) e .1)
 
-one-of : (ks : List ℕ) (c : ℕ) → among c ks ≡ true → OneOf ks c
+pub one-of : (ks : List ℕ) (c : ℕ) → among c ks ≡ true → OneOf ks c
 one-of [] c e = clash e
 one-of (k ∷ []) c e = go (eqb c k) refl e
   where

@@ -2,3 +2,4 @@ pub mod Keys
 pub mod Codes
 pub mod Heads
 pub mod Accelerations
+pub mod Slots

@@ -1,0 +1,58 @@
+-- `steps::step_acceleration` meets its contract. Assumes nothing.
+use mathlib.Core.Path.{sym, ap, _∙_}
+use lib.ListN.{set}
+use borrow.Author.Tests.{lt-ltb, le-ltb}
+use borrow.Author.Needs.{needs}
+use Rattle.law.specs.Sizes.{mostAccelerations}
+use Rattle.law.proofs.RecordsRead.{accelerationOf}
+use Rattle.steps.specs.Counts.{asCount, withLines}
+use Rattle.steps.proofs.Answers.{acceleration-there, no-acceleration}
+use Rattle.steps.proofs.Went.{acceleration-bad, acceleration-full, acceleration-on}
+use Rattle.steps.proofs.step_acceleration.Statement.{statement}
+use Rattle.steps.proofs.step_acceleration.Tie as tie
+
+acceleration-of-requires : tie.Need-acceleration-of-requires
+acceleration-of-requires c κs = search needs
+
+enum-known-a : tie.Need-enum-known-a
+enum-known-a c = search needs
+
+enum-told : tie.Need-enum-told
+enum-told c = search needs
+
+returns : tie.Need-returns
+returns c =
+    let a = c .before .before .before .before .before .args in
+    let o = accelerationOf (a .line .now) in
+    λ ln t e. acceleration-bad ln (asCount (a .c)) (withLines t (a .lines .now)) o (no-acceleration o (sym (c .before .before .acceleration-of .ensures) ∙ c .enum-told .given .1))
+
+add-if1 : tie.Need-add-if1
+add-if1 c = search needs
+
+returns-2 : tie.Need-returns-2
+returns-2 c =
+    let a = c .before .before .before .before .before .before .before .args in
+    let o = accelerationOf (a .line .now) in
+    λ ln t e.
+    acceleration-full ln (asCount (a .c)) (withLines t (a .lines .now)) o _ (acceleration-there o _ (sym (c .before .before .before .before .acceleration-of .ensures) ∙ c .before .before .a .given .1)) (lt-ltb mostAccelerations _ (c .if1 .taken))
+
+store-record-line-requires : tie.Need-store-record-line-requires
+store-record-line-requires c κs = search needs
+
+with-acceleration-requires : tie.Need-with-acceleration-requires
+with-acceleration-requires c κs = search needs
+
+same-length : tie.Need-same-length
+same-length c = search needs
+
+returns-3 : tie.Need-returns-3
+returns-3 c =
+    let a = c .before .before .before .before .before .before .before .before .before .before .before .before .args in
+    let o = accelerationOf (a .line .now) in
+    λ ln t e.
+    acceleration-on ln (asCount (a .c)) (withLines t (a .lines .now)) o _ (acceleration-there o _ (sym (c .before .before .before .before .before .before .before .before .before .acceleration-of .ensures) ∙ c .before .before .before .before .before .before .before .a .given .1)) (le-ltb mostAccelerations _ (c .before .before .before .before .before .if1 .left))
+    (c .with-acceleration .ensures) (c .before .before .before .store-record-line .ensures ∙ ap (set (a .lines .now) _) e)
+
+pub step-acceleration-spec : {M : Type 1} → statement M
+step-acceleration-spec =
+    tie.close (tie.spec acceleration-of-requires enum-known-a enum-told returns add-if1 returns-2 store-record-line-requires with-acceleration-requires same-length returns-3)

@@ -1,0 +1,294 @@
+// What one line of the file does: its record is read, and stored in the lent tables and the counts beside them, or the line is refused by 3 to 9. Promised:
+// each step is join's, on every content of the tables.
+ghost use mathlib.Core.Path.{_≡_};
+ghost use mathlib.Core.List.{[], _∷_};
+ghost use Prim.Native.Nat.{ℕ, _+_, _≤_, _<_};
+ghost use lib.ListN.{length};
+ghost use Rattle.law.specs.Sizes.{mostLine, mostAccelerations, mostText};
+ghost use Rattle.law.specs.Columns.{part, codeField};
+ghost use Rattle.law.specs.Text.{textCodes};
+ghost use Rattle.law.specs.Items as items;
+ghost use Rattle.law.specs.Tables.{lineCells};
+ghost use Rattle.law.proofs.RecordsRead.{textOf, roundsOfRow, colourOf, givenOf, accelerationOf};
+ghost use Rattle.join.specs.Store.{Nine, state, countText, countRounds, countColour, countScoring, countAcceleration, codePlace, stepText, stepRounds, stepColour, stepScoring, stepAcceleration};
+ghost use Rattle.steps.specs.Counts.{asCount, went, placeOfCode, placeIn0, placeIn1, placeIn2, Small, withText, withLines};
+use records::Accelerated;
+use records::Initial;
+use records::Rounds;
+use records::Scored;
+use records::Scoring;
+use records::Text;
+use types::Acceleration;
+use types::LineNumber;
+
+// The most acceleration records, and bytes of kept text.
+pub const ACCELERATIONS: usize = 32;
+
+const TEXT: usize = 2048;
+
+// How many codes there are of kept text, and the place of the one that may stand more than once.
+pub const TEXT_CODES: usize = 16;
+
+const REPEATED: usize = 9;
+
+// Kept beside the tables: how many players, acceleration records and bytes of text there are, the records, which text codes stood, and what 142, 152 and
+// 162 said.
+pub struct Counts {
+    pub players: usize,
+    pub accelerations: usize,
+    pub text: usize,
+    pub records: [Acceleration; ACCELERATIONS],
+    pub seen: [bool; TEXT_CODES],
+    pub stated: bool,
+    pub rounds: u32,
+    pub colour: u8,
+    pub scored: bool,
+    pub values: [u32; 6],
+}
+
+// The refusal of a line, or 0 and the counts after it.
+pub struct Stepped {
+    pub fault: u32,
+    pub counts: Counts,
+}
+
+// The place of a text code among the sixteen, by its second byte: of those that begin with 0, with 1, with 2.
+fn place_in_0(b: u8) -> usize
+    ensures { λ r. ⌜ r ≡ placeIn0 b ⌝ }
+{
+    match b {
+        b'1' => 0,
+        b'2' => 1,
+        b'3' => 2,
+        b'4' => 3,
+        b'5' => 4,
+        b'6' => 5,
+        b'7' => 6,
+        b'9' => 7,
+        _ => TEXT_CODES,
+    }
+}
+
+fn place_in_1(b: u8) -> usize
+    ensures { λ r. ⌜ r ≡ placeIn1 b ⌝ }
+{
+    match b {
+        b'0' => 8,
+        b'1' => REPEATED,
+        b'2' => 10,
+        b'3' => 11,
+        b'9' => 12,
+        _ => TEXT_CODES,
+    }
+}
+
+fn place_in_2(b: u8) -> usize
+    ensures { λ r. ⌜ r ≡ placeIn2 b ⌝ }
+{
+    match b {
+        b'0' => 13,
+        b'1' => 14,
+        b'2' => 15,
+        _ => TEXT_CODES,
+    }
+}
+
+// The place of the code of a kept text line.
+fn place_of_code(a: u8, b: u8) -> usize
+    ensures { λ r. ⌜ r ≡ placeOfCode a b ⌝ }
+{
+    match a {
+        b'0' => place_in_0(b),
+        b'1' => place_in_1(b),
+        b'2' => place_in_2(b),
+        _ => TEXT_CODES,
+    }
+}
+
+// The counts with one more text line, of n bytes with its CR.
+fn with_text(c: Counts, place: usize, n: usize) -> Counts
+    requires { ⌜ (place < 16) × (c .text ≤ mostText) × (n ≤ 65536) ⌝ }
+    ensures { λ r. ⌜ asCount r ≡ countText place n (asCount c) ⌝ }
+{
+    let mut seen = c.seen;
+    seen[place] = true;
+    let mut counts = c;
+    counts.seen = seen;
+    counts.text = c.text + n;
+    counts
+}
+
+// One acceleration record more.
+fn with_acceleration(c: Counts, a: Acceleration) -> Counts
+    requires { ⌜ c .accelerations < mostAccelerations ⌝ }
+    ensures { λ r. ⌜ asCount r ≡ countAcceleration a (asCount c) ⌝ }
+{
+    let n = c.accelerations;
+    let mut records = c.records;
+    records[n] = a;
+    let mut counts = c;
+    counts.records = records;
+    counts.accelerations = n + 1;
+    counts
+}
+
+fn with_rounds(c: Counts, n: u32) -> Counts
+    ensures { λ r. ⌜ asCount r ≡ countRounds n (asCount c) ⌝ }
+{
+    let mut counts = c;
+    counts.stated = true;
+    counts.rounds = n;
+    counts
+}
+
+fn with_colour(c: Counts, colour: u8) -> Counts
+    ensures { λ r. ⌜ asCount r ≡ countColour colour (asCount c) ⌝ }
+{
+    let mut counts = c;
+    counts.colour = colour;
+    counts
+}
+
+fn with_scoring(c: Counts, scoring: Scoring) -> Counts
+    ensures { λ r. ⌜ asCount r ≡ countScoring (scoring .values) (asCount c) ⌝ }
+{
+    let values = scoring.values;
+    let mut counts = c;
+    counts.scored = true;
+    counts.values = values;
+    counts
+}
+
+// A line of kept text.
+fn text_place(line: &[u8]) -> usize
+    requires { ⌜ items.kindOf (now line) ≡ items.kept-text ⌝ }
+    ensures { λ r. ⌜ (r ≡ codePlace (part codeField (now (line .entry))) 0 textCodes) × (r < 16) ⌝ }
+{
+    let a = fields::column(line, 0);
+    let b = fields::column(line, 1);
+    place_of_code(a, b)
+}
+
+fn step_text(line: &[u8], c: Counts, text: &mut [u8]) -> Stepped
+    requires { ⌜ (items.kindOf (now line) ≡ items.kept-text) × (length (now line) ≤ mostLine) × (c .text ≤ mostText) × (mostText ≤ length (now text)) ⌝ }
+    ensures { λ r. ⌜ ((ln : ℕ) (t : Nine) → went ln r (withText t (now (text .exit))) ≡ stepText (textOf (now (line .entry))) (codePlace (part codeField (now (line .entry))) 0 textCodes) (state ln (asCount c) (withText t (now (text .entry))))) ⌝ }
+{
+    let Text::Kept(n) = records::text_of(line) else {
+        return Stepped {
+            fault: 7,
+            counts: c,
+        };
+    };
+    let place = text_place(line);
+    let seen = c.seen;
+    if (place != REPEATED) & seen[place] {
+        return Stepped {
+            fault: 8,
+            counts: c,
+        };
+    }
+    if TEXT < c.text + (n + 1) {
+        return Stepped {
+            fault: 9,
+            counts: c,
+        };
+    }
+    tables::store_text(text, c.text, line, n);
+    Stepped {
+        fault: 0,
+        counts: with_text(c, place, n + 1),
+    }
+}
+
+// A 142 line.
+fn step_rounds(line: &[u8], c: Counts) -> Stepped
+    ensures { λ r. ⌜ ((ln : ℕ) (t : Nine) → went ln r t ≡ stepRounds (roundsOfRow (now (line .entry))) (state ln (asCount c) t)) ⌝ }
+{
+    let Rounds::Given(n) = records::rounds_of(line) else {
+        return Stepped {
+            fault: 7,
+            counts: c,
+        };
+    };
+    if c.stated {
+        return Stepped {
+            fault: 8,
+            counts: c,
+        };
+    }
+    Stepped {
+        fault: 0,
+        counts: with_rounds(c, n),
+    }
+}
+
+// A 152 line.
+fn step_colour(line: &[u8], c: Counts) -> Stepped
+    ensures { λ r. ⌜ ((ln : ℕ) (t : Nine) → went ln r t ≡ stepColour (colourOf (now (line .entry))) (state ln (asCount c) t)) ⌝ }
+{
+    let Initial::Letter(colour) = records::colour_of(line) else {
+        return Stepped {
+            fault: 7,
+            counts: c,
+        };
+    };
+    if c.colour != 0 {
+        return Stepped {
+            fault: 8,
+            counts: c,
+        };
+    }
+    Stepped {
+        fault: 0,
+        counts: with_colour(c, colour),
+    }
+}
+
+// A 162 line.
+fn step_scoring(line: &[u8], c: Counts) -> Stepped
+    ensures { λ r. ⌜ ((ln : ℕ) (t : Nine) → went ln r t ≡ stepScoring (givenOf (now (line .entry))) (state ln (asCount c) t)) ⌝ }
+{
+    let read = Scoring::from_line(line);
+    if !read.good {
+        return Stepped {
+            fault: 7,
+            counts: c,
+        };
+    }
+    if c.scored {
+        return Stepped {
+            fault: 8,
+            counts: c,
+        };
+    }
+    let scoring = read.scoring;
+    Stepped {
+        fault: 0,
+        counts: with_scoring(c, scoring),
+    }
+}
+
+// A 250 line.
+fn step_acceleration(line: &[u8], number: LineNumber, c: Counts, lines: &mut [u32]) -> Stepped
+    requires { ⌜ (c .accelerations ≤ mostAccelerations) × (lineCells ≤ length (now lines)) ⌝ }
+    ensures { λ r. ⌜ ((ln : ℕ) (t : Nine) → number .0 ≡ ln + 1 → went ln r (withLines t (now (lines .exit))) ≡ stepAcceleration (accelerationOf (now (line .entry))) (state ln (asCount c) (withLines t (now (lines .entry))))) ⌝ }
+{
+    let Accelerated::Record(a) = records::acceleration_of(line) else {
+        return Stepped {
+            fault: 7,
+            counts: c,
+        };
+    };
+    let n = c.accelerations;
+    if ACCELERATIONS < n + 1 {
+        return Stepped {
+            fault: 9,
+            counts: c,
+        };
+    }
+    tables::store_record_line(lines, n, number);
+    Stepped {
+        fault: 0,
+        counts: with_acceleration(c, a),
+    }
+}
