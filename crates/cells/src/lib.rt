@@ -1,19 +1,15 @@
-// Writing to one lent table: zero to its first cells, a value to one cell, or some values from a cell on. Promised: what each cell that is written holds;
+// Writing to one lent table: zero to its first cells, or some bytes from a cell on. Promised: what each cell that is written holds;
 // that every other cell, and the table's length, are as before. Which cells those are is the caller's to say: no order of cells is known here.
 ghost use mathlib.Core.Path.{_≡_};
-ghost use Prim.Native.Nat.{_+_, _<_, _≤_};
-ghost use lib.ListN.{length, set};
+ghost use Prim.Native.Nat.{_+_, _≤_};
+ghost use lib.ListN.{length};
 ghost use lib.Seq.{paste};
 ghost use Rattle.kit.specs.Table.{Holds};
-ghost use Rattle.law.specs.Sizes.{mostRounds};
 ghost use Rattle.law.specs.Columns.{width};
 ghost use Rattle.law.specs.Players.{keptField};
 
 // "The 70 columns 10-79 are kept byte by byte."
 pub const KEPT_COLUMNS: usize = 70;
-
-// A player has a cell for each round that there can be.
-pub const MOST_ROUNDS: usize = 20;
 
 // Zero in the first n cells.
 pub fn zero_numbers(t: &mut [u32], n: usize)
@@ -38,21 +34,6 @@ pub fn zero_bytes(t: &mut [u8], n: usize)
     }
 }
 
-// One cell.
-pub fn put_number(t: &mut [u32], i: usize, v: u32)
-    requires { ⌜ i < length (now t) ⌝ }
-    ensures { λ _. ⌜ now (t .exit) ≡ set (now (t .entry)) i v ⌝ }
-{
-    t[i] = v;
-}
-
-pub fn put_byte(t: &mut [u8], i: usize, v: u8)
-    requires { ⌜ i < length (now t) ⌝ }
-    ensures { λ _. ⌜ now (t .exit) ≡ set (now (t .entry)) i v ⌝ }
-{
-    t[i] = v;
-}
-
 // The first n bytes of s, from a cell on.
 pub fn put_bytes(t: &mut [u8], at: usize, s: &[u8], n: usize)
     requires { ⌜ (at + n ≤ length (now t)) × (n ≤ length (now s)) ⌝ }
@@ -73,29 +54,6 @@ pub fn put_kept(t: &mut [u8], at: usize, kept: [u8; KEPT_COLUMNS])
     let mut i = 0;
     while i < KEPT_COLUMNS {
         t[at + i] = kept[i];
-        i += 1;
-    }
-}
-
-// A player's opponents, colours or results, from a cell on: numbers, and letters.
-pub fn put_numbers(t: &mut [u32], at: usize, v: [u32; MOST_ROUNDS])
-    requires { ⌜ at + mostRounds ≤ length (now t) ⌝ }
-    ensures { λ _. ⌜ now (t .exit) ≡ paste (now (t .entry)) at v mostRounds ⌝ }
-{
-    let mut i = 0;
-    while i < MOST_ROUNDS {
-        t[at + i] = v[i];
-        i += 1;
-    }
-}
-
-pub fn put_letters(t: &mut [u8], at: usize, v: [u8; MOST_ROUNDS])
-    requires { ⌜ at + mostRounds ≤ length (now t) ⌝ }
-    ensures { λ _. ⌜ now (t .exit) ≡ paste (now (t .entry)) at v mostRounds ⌝ }
-{
-    let mut i = 0;
-    while i < MOST_ROUNDS {
-        t[at + i] = v[i];
         i += 1;
     }
 }

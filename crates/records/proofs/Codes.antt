@@ -22,7 +22,7 @@ use Rattle.law.proofs.FieldsRead.{trim}
 use Rattle.law.proofs.RecordsRead.{textOf}
 use Rattle.fields.proofs.Columns.{cells-three}
 use Rattle.fields.proofs.Turns.{and-true}
-use Rattle.records.proofs.Keys.{run-or}
+use Rattle.records.proofs.Keys.{and-false, run-or}
 
 -- ---- codes with one last byte
 abbrev first-two : ℕ → ℕ → List (ℕ × ℕ) → Bool
@@ -45,10 +45,6 @@ by-last a b c d (t ∷ l) = rw (by-last a b c d l) (go (eqb a (t .0)) (eqb b (t 
 abbrev text-pairs : List (ℕ × ℕ)
 text-pairs =
     (48, 49) ∷ (48, 50) ∷ (48, 51) ∷ (48, 52) ∷ (48, 53) ∷ (48, 54) ∷ (48, 55) ∷ (48, 57) ∷ (49, 48) ∷ (49, 49) ∷ (49, 50) ∷ (49, 51) ∷ (49, 57) ∷ (50, 48) ∷ (50, 49) ∷ (50, 50) ∷ []
-
-and-false : (b : Bool) → b && false ≡ false
-and-false true = refl
-and-false false = refl
 
 module _ (a b c : ℕ) where
   text-by : isOneOf (a ∷ b ∷ c ∷ []) textCodes ≡ first-two a b text-pairs && eqb c (code "2")

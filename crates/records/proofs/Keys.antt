@@ -1,16 +1,20 @@
 -- A byte among a list of bytes, by the keys of a `match` and by runs of bytes. Assumes nothing.
 use mathlib.Core.Path.{_≡_, refl, sym, ap, _∙_}
 use mathlib.Core.Logic.{_⊎_, inl, inr}
-use mathlib.Core.Bool.{Bool, true, false, _||_}
+use mathlib.Core.Bool.{Bool, true, false, _&&_, _||_}
 use mathlib.Core.List.{List, [], _∷_}
 use Prim.Native.Nat.{ℕ, zero, suc, _+_, _≤_, _<_}
 use native.Mathlib.Decide.{ℕ-discrete}
 use native.Mathlib.Omega.{arith}
-use lib.Dec.{eqb}
-use borrow.Author.Tests.{eqb-true}
+use lib.Dec.{eqb, leb}
+use borrow.Author.Tests.{eqb-true, lt-leb}
 use types.Run.{OneOf}
 use Rattle.kit.specs.Lists.{between, all, among, from}
 use Rattle.kit.proofs.Bools.{clash, and, within, among-all, both-ways, not-so}
+
+pub and-false : (b : Bool) → b && false ≡ false
+and-false true = refl
+and-false false = refl
 
 pub key-among : (ks l : List ℕ) (c : ℕ) → OneOf ks c → all (λ k. among k l) ks ≡ true → among c l ≡ true
 key-among [] l c h e = absurd h
@@ -35,7 +39,7 @@ pub key-other : (ks l : List ℕ) (c : ℕ) → (OneOf ks c → ⊥) → all (λ
 key-other ks l c h e = not-so (among c l) (λ p. h (one-of ks c (among-all (λ x. among x ks) c l p e)))
 
 -- ---- a run of n bytes from first on, and one other
-in-run : (n first : ℕ) (l : List ℕ) (c : ℕ) → first ≤ c → c < first + n → all (λ k. among k l) (from first n) ≡ true → among c l ≡ true
+pub in-run : (n first : ℕ) (l : List ℕ) (c : ℕ) → first ≤ c → c < first + n → all (λ k. among k l) (from first n) ≡ true → among c l ≡ true
 in-run zero first l c p q e = absurd (omega arith)
 in-run (suc n) first l c p q e = go (ℕ-discrete first c) (in-run n (first + 1) l c)
   where
@@ -60,3 +64,16 @@ run-or first n other l there back c =
     go v p true q e = ap (λ (x : ℕ). among x l) (eqb-true c other q) ∙ parts .0
     go true p false q e = let k = within first (first + n) c p in in-run (suc n) first l c (k .0) (omega (arith, k .1)) (parts .1)
     go false p false q e = clash e
+
+-- ---- neither a key of the `match` nor in its run
+pub key-nor-run : (ks l : List ℕ) (first last c : ℕ) → (OneOf ks c → ⊥) → between first last c ≡ false → all (λ x. between first last x || among x ks) l ≡ true → among c l ≡ false
+key-nor-run ks l first last c h r e = not-so (among c l) (λ p. h (one-of ks c (go (among-all (λ x. between first last x || among x ks) c l p e))))
+  where
+    go : between first last c || among c ks ≡ true → among c ks ≡ true
+    go q = rw r at q
+
+pub run-below : (first last c : ℕ) → c < first → between first last c ≡ false
+run-below first last c h = rw (lt-leb first c h) refl
+
+pub run-above : (first last c : ℕ) → last < c → between first last c ≡ false
+run-above first last c h = rw (lt-leb c last h) (and-false (leb first c))

@@ -2,4 +2,7 @@ pub mod Keys
 pub mod Codes
 pub mod Heads
 pub mod Accelerations
-pub mod Slots
+pub mod ScoringSlots
+pub mod KeptColumns
+pub mod PlayerRounds
+pub mod PlayerLines

@@ -14,9 +14,11 @@ ghost use Rattle.join.specs.Grid.{putRow};
 ghost use Rattle.join.specs.Kept.{Long, Zeroed};
 ghost use Rattle.tables.specs.Lent.{lent, before, after};
 use cells::KEPT_COLUMNS;
-use cells::MOST_ROUNDS;
 use types::LineNumber;
 use types::Place;
+
+// A player has a cell for each round that there can be.
+pub const MOST_ROUNDS: usize = 20;
 
 // The listed sizes.
 const PLAYERS: usize = 200;

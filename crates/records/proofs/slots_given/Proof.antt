@@ -6,7 +6,7 @@ use lib.ListN.{drop}
 use mathlib.Core.List.{_∷_}
 use Rattle.law.specs.Columns.{cells}
 use Rattle.records.specs.Scoring.{differing, slotsIn, asGiven}
-use Rattle.records.proofs.Slots.{slots-turn}
+use Rattle.records.proofs.ScoringSlots.{slots-turn}
 use borrow.Author.Needs.{needs}
 use Rattle.records.proofs.slots_given.Statement.{statement}
 use Rattle.records.proofs.slots_given.Tie as tie

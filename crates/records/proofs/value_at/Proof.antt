@@ -8,7 +8,7 @@ use Prim.Native.Nat.{ℕ}
 use Rattle.fields.proofs.Cases.{points-there, no-points}
 use Rattle.records.specs.declared.Value.the-variants.{Of}
 use Rattle.records.specs.Scoring.{asValue}
-use Rattle.records.proofs.Slots.{value-by}
+use Rattle.records.proofs.ScoringSlots.{value-by}
 use borrow.Author.Needs.{needs}
 use Rattle.records.proofs.value_at.Statement.{statement}
 use Rattle.records.proofs.value_at.Tie as tie

@@ -4,7 +4,7 @@ use mathlib.Core.Bool.{true, false}
 use borrow.Author.Tests.{not-true, not-false}
 use native.Mathlib.Omega.{arith}
 use Rattle.law.specs.Columns.{cells}
-use Rattle.records.proofs.Slots.{slot-place, after-bad, blank-late, blank-more, slot-bad, letter-again, letter-new}
+use Rattle.records.proofs.ScoringSlots.{slot-place, after-bad, blank-late, blank-more, slot-bad, letter-again, letter-new}
 use borrow.Author.Needs.{needs}
 use Rattle.records.proofs.with_slot.Statement.{statement}
 use Rattle.records.proofs.with_slot.Tie as tie

@@ -1,7 +1,7 @@
 -- `records::Scoring::from_line` meets its contract. Assumes nothing.
 use mathlib.Core.Path.{refl, sym, _∙_}
 use borrow.Author.Tests.{not-true, not-false}
-use Rattle.records.proofs.Slots.{not-blank, none-filled, some-filled}
+use Rattle.records.proofs.ScoringSlots.{not-blank, none-filled, some-filled}
 use borrow.Author.Needs.{needs}
 use Rattle.records.proofs.Scoring.from_line.Statement.{statement}
 use Rattle.records.proofs.Scoring.from_line.Tie as tie

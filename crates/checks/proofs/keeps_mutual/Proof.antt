@@ -1,0 +1,82 @@
+-- `checks::keeps_mutual` meets its contract. Assumes nothing.
+use borrow.Author.Needs.{needs}
+use native.Mathlib.Omega.{arith}
+use Rattle.checks.proofs.Told.{told-player}
+use Rattle.checks.proofs.Kept.{mutual-alone, mutual-kept}
+use Rattle.checks.proofs.keeps_mutual.Statement.{statement}
+use Rattle.checks.proofs.keeps_mutual.Tie as tie
+
+cell-of-requires : tie.Need-cell-of-requires
+cell-of-requires c κs = search needs
+
+mul-place-of : tie.Need-mul-place-of
+mul-place-of c = search needs
+
+shared-slice-read-place-of : tie.Need-shared-slice-read-place-of
+shared-slice-read-place-of c = search needs
+
+place-of-requires : tie.Need-place-of-requires
+place-of-requires c κs = search needs
+
+enum-known-opponent : tie.Need-enum-known-opponent
+enum-known-opponent c = search needs
+
+enum-told : tie.Need-enum-told
+enum-told c = search needs
+
+returns : tie.Need-returns
+returns c = λ n results x. mutual-alone n _ _ _ results _ _ (c .before .before .before .before .cell-of .ensures .0) (c .before .before .place-of .ensures _ n (x .says) (x .low)) (c .enum-told .given .1)
+
+cell-of-requires-2 : tie.Need-cell-of-requires-2
+cell-of-requires-2 c κs =
+    let start : tie.Start = c .before .before .before .before .before .before .before .before .before in
+    let x = start .pre .1 .3 .indexed in
+    let found = told-player _ _ _ (c .before .before .before .place-of .ensures _ _ (x .says) (x .low)) (c .before .opponent .given .1) in
+    (omega (arith, x .few, found), start .pre .0 .1, start .pre .0 .2)
+
+own-cell-requires : tie.Need-own-cell-requires
+own-cell-requires c κs = search needs
+
+mul-result : tie.Need-mul-result
+mul-result c = search needs
+
+shared-slice-read-result : tie.Need-shared-slice-read-result
+shared-slice-read-result c = search needs
+
+mul-result-2 : tie.Need-mul-result-2
+mul-result-2 c = search needs
+
+shared-slice-read-result-2 : tie.Need-shared-slice-read-result-2
+shared-slice-read-result-2 c = search needs
+
+shared-slice-read-result-3 : tie.Need-shared-slice-read-result-3
+shared-slice-read-result-3 c = search needs
+
+shared-slice-read-result-4 : tie.Need-shared-slice-read-result-4
+shared-slice-read-result-4 c = search needs
+
+returns-2 : tie.Need-returns-2
+returns-2 c = λ n results x.
+    mutual-kept n _ _ _ results _ _ (c .before .before .before .before .before .before .before .before .before .before .before .cell-of .ensures .0) (c .before .before .before .before .before .before .before .before .before .place-of .ensures _ n (x .says) (x .low)) (c .before .before .before .before .before .before .before .opponent .given .1)
+    (c .before .before .before .before .before .cell-of2 .ensures .0) (c .before .before .before .before .own-cell .ensures .0)
+
+pub keeps-mutual-spec : {M : Type 1} → statement M
+keeps-mutual-spec =
+    tie.close
+    (tie.spec
+    cell-of-requires
+    mul-place-of
+    shared-slice-read-place-of
+    place-of-requires
+    enum-known-opponent
+    enum-told
+    returns
+    cell-of-requires-2
+    own-cell-requires
+    mul-result
+    shared-slice-read-result
+    mul-result-2
+    shared-slice-read-result-2
+    shared-slice-read-result-3
+    shared-slice-read-result-4
+    returns-2)

@@ -1,0 +1,4 @@
+pub mod Results
+pub mod Found
+pub mod Index
+pub mod Laws
