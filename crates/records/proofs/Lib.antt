@@ -6,3 +6,4 @@ pub mod ScoringSlots
 pub mod KeptColumns
 pub mod PlayerRounds
 pub mod PlayerLines
+pub mod Means

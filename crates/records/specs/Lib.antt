@@ -1,3 +1,4 @@
 pub mod Records
 pub mod Scoring
 pub mod Players
+pub mod Means

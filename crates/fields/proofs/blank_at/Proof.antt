@@ -22,7 +22,7 @@ add-column : tie.Need-add-column Inv-loop μ-loop
 add-column c = search needs
 
 column-requires : tie.Need-column-requires Inv-loop μ-loop
-column-requires c κs = search needs
+column-requires c κs = tt
 
 returns : tie.Need-returns Inv-loop μ-loop
 returns c =

@@ -1,7 +1,6 @@
 -- `fields::is_digit` meets its contract. Assumes nothing.
 use mathlib.Core.Path.{refl}
 use borrow.Author.Tests.{le-leb, lt-leb}
-use borrow.Author.Needs.{needs}
 use Rattle.fields.proofs.is_digit.Statement.{statement}
 use Rattle.fields.proofs.is_digit.Tie as tie
 

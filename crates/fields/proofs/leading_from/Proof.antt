@@ -28,10 +28,10 @@ add-column : tie.Need-add-column Inv-loop μ-loop
 add-column c = search needs
 
 column-requires : tie.Need-column-requires Inv-loop μ-loop
-column-requires c κs = search needs
+column-requires c κs = tt
 
 is-digit-requires : tie.Need-is-digit-requires Inv-loop μ-loop
-is-digit-requires c κs = search needs
+is-digit-requires c κs = tt
 
 add-blank-at : tie.Need-add-blank-at Inv-loop μ-loop
 add-blank-at c = search needs
@@ -62,7 +62,7 @@ mul-n : tie.Need-mul-n Inv-loop μ-loop
 mul-n c = let l = c .before .before .before .before in omega (arith, worth-fits (l .loop .i) (l .loop .n) (omega arith) (l .loop .inv .1))
 
 digit-value-requires : tie.Need-digit-value-requires Inv-loop μ-loop
-digit-value-requires c κs = search needs
+digit-value-requires c κs = tt
 
 add-n : tie.Need-add-n Inv-loop μ-loop
 add-n c = let l = c .before .before .before .before .before in omega (arith, worth-fits (l .loop .i) (l .loop .n) (omega arith) (l .loop .inv .1), c .digit-value .ensures .1)

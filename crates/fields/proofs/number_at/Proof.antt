@@ -23,7 +23,7 @@ add-column : tie.Need-add-column Inv-loop μ-loop
 add-column c = search needs
 
 column-requires : tie.Need-column-requires Inv-loop μ-loop
-column-requires c κs = search needs
+column-requires c κs = tt
 
 add-digits-at : tie.Need-add-digits-at Inv-loop μ-loop
 add-digits-at c = search needs

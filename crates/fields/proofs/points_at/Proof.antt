@@ -10,28 +10,28 @@ use Rattle.fields.proofs.points_at.Statement.{statement}
 use Rattle.fields.proofs.points_at.Tie as tie
 
 column-requires : tie.Need-column-requires
-column-requires c κs = search needs
+column-requires c κs = tt
 
 add-column : tie.Need-add-column
 add-column c = search needs
 
 column-requires-2 : tie.Need-column-requires-2
-column-requires-2 c κs = search needs
+column-requires-2 c κs = tt
 
 add-column-2 : tie.Need-add-column-2
 add-column-2 c = search needs
 
 column-requires-3 : tie.Need-column-requires-3
-column-requires-3 c κs = search needs
+column-requires-3 c κs = tt
 
 add-column-3 : tie.Need-add-column-3
 add-column-3 c = search needs
 
 column-requires-4 : tie.Need-column-requires-4
-column-requires-4 c κs = search needs
+column-requires-4 c κs = tt
 
 are-points-requires : tie.Need-are-points-requires
-are-points-requires c κs = search needs
+are-points-requires c κs = tt
 
 returns : tie.Need-returns
 returns c =
@@ -41,13 +41,13 @@ returns c =
     sym (ap asPoints (points-not (a .line .now) (a .from) _ _ _ _ (x .column .ensures) (c .before .before .before .before .column2 .ensures) (c .before .before .before .column3 .ensures) (c .before .before .column4 .ensures) t))
 
 digit-value-requires : tie.Need-digit-value-requires
-digit-value-requires c κs = search needs
+digit-value-requires c κs = tt
 
 mul-t11 : tie.Need-mul-t11
 mul-t11 c = search needs
 
 digit-value-requires-2 : tie.Need-digit-value-requires-2
-digit-value-requires-2 c κs = search needs
+digit-value-requires-2 c κs = tt
 
 mul-t13 : tie.Need-mul-t13
 mul-t13 c = search needs
@@ -56,7 +56,7 @@ add-t14 : tie.Need-add-t14
 add-t14 c = search needs
 
 digit-value-requires-3 : tie.Need-digit-value-requires-3
-digit-value-requires-3 c κs = search needs
+digit-value-requires-3 c κs = tt
 
 add-t16 : tie.Need-add-t16
 add-t16 c = search needs

@@ -36,7 +36,7 @@ returns-5 : tie.Need-returns-5
 returns-5 c = rw (sym (c .before .before .before .before .before .before .before .before .before .blank-at .ensures) ∙ not-false _ (c .before .before .before .before .before .before .before .before .if1 .left), sym (c .before .before .before .before .before .before .before .blank-at2 .ensures) ∙ not-false _ (c .before .before .before .before .before .before .if2 .left), sym (c .before .before .before .before .before .blank-at3 .ensures) ∙ not-false _ (c .before .before .before .before .if3 .left), sym (c .before .before .before .blank-at4 .ensures) ∙ not-false _ (c .before .before .if4 .left), sym (c .before .blank-at5 .ensures) ∙ not-true _ (c .if5 .taken)) refl
 
 blank-from-requires : tie.Need-blank-from-requires
-blank-from-requires c κs = search needs
+blank-from-requires c κs = tt
 
 returns-6 : tie.Need-returns-6
 returns-6 c = rw (sym (c .before .before .before .before .before .before .before .before .before .before .blank-at .ensures) ∙ not-false _ (c .before .before .before .before .before .before .before .before .before .if1 .left), sym (c .before .before .before .before .before .before .before .before .blank-at2 .ensures) ∙ not-false _ (c .before .before .before .before .before .before .before .if2 .left), sym (c .before .before .before .before .before .before .blank-at3 .ensures) ∙ not-false _ (c .before .before .before .before .before .if3 .left), sym (c .before .before .before .before .blank-at4 .ensures) ∙ not-false _ (c .before .before .before .if4 .left), sym (c .before .before .blank-at5 .ensures) ∙ not-false _ (c .before .if5 .left)) (c .blank-from .ensures)

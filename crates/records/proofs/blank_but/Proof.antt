@@ -17,7 +17,7 @@ returns : tie.Need-returns
 returns c = rw (sym (c .before .blank-at .ensures) ∙ not-true _ (c .if1 .taken)) refl
 
 blank-from-requires : tie.Need-blank-from-requires
-blank-from-requires c κs = search needs
+blank-from-requires c κs = tt
 
 returns-2 : tie.Need-returns-2
 returns-2 c =

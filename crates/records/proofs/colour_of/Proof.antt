@@ -9,10 +9,10 @@ use Rattle.records.proofs.colour_of.Statement.{statement}
 use Rattle.records.proofs.colour_of.Tie as tie
 
 column-requires : tie.Need-column-requires
-column-requires c κs = search needs
+column-requires c κs = tt
 
 is-initial-requires : tie.Need-is-initial-requires
-is-initial-requires c κs = search needs
+is-initial-requires c κs = tt
 
 returns : tie.Need-returns
 returns c = sym (ap asInitial (colour-by (c .before .before .before .before .args .line .now) (c .before .before .column .result) false _ (sym (c .before .before .column .ensures)) (sym (c .before .is-initial .ensures) ∙ not-true _ (c .if1 .taken)) refl))

@@ -26,7 +26,7 @@ returns c =
     sym (ap (λ (o : Option ℕ). orBad (keep (between 1 (a .most)) o)) (no-value (numberOf (cells (a .line .now) (a .from) 4)) _ (c .before .number-at .ensures) (c .match .keys2)))
 
 is-counted-requires : tie.Need-is-counted-requires
-is-counted-requires c κs = search needs
+is-counted-requires c κs = tt
 
 returns-2 : tie.Need-returns-2
 returns-2 c =

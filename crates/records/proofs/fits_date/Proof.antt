@@ -4,7 +4,6 @@ use Prim.Native.Nat.{ℕ}
 use lib.ListN.{getD}
 use Rattle.records.specs.Players.{fitsShape, dateShape}
 use Rattle.records.proofs.KeptColumns.{date-bar, date-digit}
-use borrow.Author.Needs.{needs}
 use Rattle.records.proofs.fits_date.Statement.{statement}
 use Rattle.records.proofs.fits_date.Tie as tie
 
@@ -15,7 +14,7 @@ returns-2 : tie.Need-returns-2
 returns-2 c = date-bar (c .before .before .args .c) ∙ ap (λ (j : ℕ). fitsShape (getD dateShape j 0) (c .before .before .args .c)) (sym (c .if2 .taken))
 
 is-digit-requires : tie.Need-is-digit-requires
-is-digit-requires c κs = search needs
+is-digit-requires c κs = tt
 
 returns-3 : tie.Need-returns-3
 returns-3 c = c .is-digit .ensures ∙ date-digit (c .before .before .before .args .i) (c .before .before .before .args .c) (c .before .before .before .pre) (c .before .before .if1 .left) (c .before .if2 .left)

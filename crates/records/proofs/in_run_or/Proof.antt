@@ -1,7 +1,6 @@
 -- `records::in_run_or` meets its contract. Assumes nothing.
 use mathlib.Core.Path.{refl}
 use borrow.Author.Tests.{eq-eqb, ne-eqb, le-leb, lt-leb}
-use borrow.Author.Needs.{needs}
 use Rattle.records.proofs.in_run_or.Statement.{statement}
 use Rattle.records.proofs.in_run_or.Tie as tie
 

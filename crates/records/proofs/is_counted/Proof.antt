@@ -1,7 +1,6 @@
 -- `records::is_counted` meets its contract. Assumes nothing.
 use mathlib.Core.Path.{refl}
 use borrow.Author.Tests.{le-leb, lt-leb}
-use borrow.Author.Needs.{needs}
 use Rattle.records.proofs.is_counted.Statement.{statement}
 use Rattle.records.proofs.is_counted.Tie as tie
 

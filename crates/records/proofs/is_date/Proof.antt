@@ -28,7 +28,7 @@ add-column : tie.Need-add-column Inv-loop μ-loop
 add-column c = search needs
 
 column-requires : tie.Need-column-requires Inv-loop μ-loop
-column-requires c κs = search needs
+column-requires c κs = tt
 
 fits-date-requires : tie.Need-fits-date-requires Inv-loop μ-loop
 fits-date-requires c κs = search needs

@@ -3,7 +3,6 @@ use mathlib.Core.Path.{refl, sym, _∙_}
 use mathlib.Core.List.{[], _∷_}
 use Rattle.records.specs.Players.{grades}
 use Rattle.records.proofs.Keys.{key-among, key-nor-run, in-run, run-below, run-above}
-use borrow.Author.Needs.{needs}
 use Rattle.records.proofs.is_grade.Statement.{statement}
 use Rattle.records.proofs.is_grade.Tie as tie
 

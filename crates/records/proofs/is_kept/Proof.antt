@@ -14,7 +14,7 @@ array-read-is-sex : tie.Need-array-read-is-sex
 array-read-is-sex c = search needs
 
 is-sex-requires : tie.Need-is-sex-requires
-is-sex-requires c κs = search needs
+is-sex-requires c κs = tt
 
 returns : tie.Need-returns
 returns c =
@@ -32,7 +32,7 @@ array-read-is-title-3 : tie.Need-array-read-is-title-3
 array-read-is-title-3 c = search needs
 
 is-title-requires : tie.Need-is-title-requires
-is-title-requires c κs = search needs
+is-title-requires c κs = tt
 
 returns-2 : tie.Need-returns-2
 returns-2 c =
@@ -53,7 +53,7 @@ returns-3 c =
     sym (kept-by k true true false _ _ (sex-there k true long (sym (c .before .before .before .before .before .before .is-sex .ensures) ∙ not-false _ (c .before .before .before .before .before .if1 .left))) (title-there k true long (sym (c .before .before .before .before .is-title .ensures) ∙ not-false _ (c .before .before .before .if2 .left))) (sym (c .before .is-birth .ensures) ∙ not-true _ (c .if3 .taken)) refl refl)
 
 kept-gaps-blank-requires : tie.Need-kept-gaps-blank-requires
-kept-gaps-blank-requires c κs = search needs
+kept-gaps-blank-requires c κs = tt
 
 returns-4 : tie.Need-returns-4
 returns-4 c =

@@ -4,7 +4,6 @@ use mathlib.Core.List.{[], _∷_}
 use Rattle.kit.specs.Ascii.{ascii}
 use Rattle.records.proofs.KeptColumns.{sex-by}
 use Rattle.records.proofs.Keys.{key-among, key-other}
-use borrow.Author.Needs.{needs}
 use Rattle.records.proofs.is_sex.Statement.{statement}
 use Rattle.records.proofs.is_sex.Tie as tie
 

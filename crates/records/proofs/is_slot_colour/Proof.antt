@@ -3,7 +3,6 @@ use mathlib.Core.Path.{refl, sym, _∙_}
 use mathlib.Core.List.{[], _∷_}
 use Rattle.law.specs.Players.{slotColours}
 use Rattle.records.proofs.Keys.{key-among, key-other}
-use borrow.Author.Needs.{needs}
 use Rattle.records.proofs.is_slot_colour.Statement.{statement}
 use Rattle.records.proofs.is_slot_colour.Tie as tie
 

@@ -3,7 +3,6 @@ use mathlib.Core.Path.{refl, sym, _∙_}
 use mathlib.Core.List.{[], _∷_}
 use Rattle.law.specs.Players.{slotResults}
 use Rattle.records.proofs.Keys.{key-among, key-nor-run, in-run, run-below, run-above}
-use borrow.Author.Needs.{needs}
 use Rattle.records.proofs.is_slot_result.Statement.{statement}
 use Rattle.records.proofs.is_slot_result.Tie as tie
 

@@ -1,7 +1,6 @@
 -- `records::is_text_code` meets its contract: the sixteen codes by their last byte, then their first. Assumes nothing.
 use mathlib.Core.Path.{sym, _∙_}
 use Rattle.records.proofs.Codes.{text-last, text-0, text-1, text-2, text-other}
-use borrow.Author.Needs.{needs}
 use Rattle.records.proofs.is_text_code.Statement.{statement}
 use Rattle.records.proofs.is_text_code.Tie as tie
 
@@ -9,13 +8,13 @@ returns : tie.Need-returns
 returns c = let a = c .before .args in sym (text-last (a .a) (a .b) (a .c) (c .if1 .taken))
 
 in-run-or-requires : tie.Need-in-run-or-requires
-in-run-or-requires c κs = search needs
+in-run-or-requires c κs = tt
 
 in-run-or-requires-2 : tie.Need-in-run-or-requires-2
-in-run-or-requires-2 c κs = search needs
+in-run-or-requires-2 c κs = tt
 
 in-run-or-requires-3 : tie.Need-in-run-or-requires-3
-in-run-or-requires-3 c κs = search needs
+in-run-or-requires-3 c κs = tt
 
 returns-2 : tie.Need-returns-2
 returns-2 c = let a = c .before .before .before .args in c .in-run-or .ensures ∙ sym (text-0 (a .a) (a .b) (a .c) (c .before .before .if1 .left) (c .before .match .keys1))

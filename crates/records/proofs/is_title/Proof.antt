@@ -1,7 +1,6 @@
 -- `records::is_title` meets its contract. Assumes nothing.
 use mathlib.Core.Path.{sym, _∙_}
 use Rattle.records.proofs.KeptColumns.{title-W, title-no-W, title-no-end, title-M, title-no-M, title-blank}
-use borrow.Author.Needs.{needs}
 use Rattle.records.proofs.is_title.Statement.{statement}
 use Rattle.records.proofs.is_title.Tie as tie
 
@@ -9,7 +8,7 @@ returns : tie.Need-returns
 returns c = let a = c .before .before .args in sym (title-no-W (a .a) (a .b) (a .c) (c .before .if1 .taken) (c .if2 .taken))
 
 is-grade-requires : tie.Need-is-grade-requires
-is-grade-requires c κs = search needs
+is-grade-requires c κs = tt
 
 returns-2 : tie.Need-returns-2
 returns-2 c = let a = c .before .before .before .args in c .is-grade .ensures ∙ sym (title-W (a .a) (a .b) (a .c) (c .before .before .if1 .taken) (c .before .if2 .left))
@@ -18,7 +17,7 @@ returns-3 : tie.Need-returns-3
 returns-3 c = let a = c .before .before .args in sym (title-no-end (a .a) (a .b) (a .c) (c .before .if1 .left) (c .if3 .taken))
 
 is-grade-requires-2 : tie.Need-is-grade-requires-2
-is-grade-requires-2 c κs = search needs
+is-grade-requires-2 c κs = tt
 
 returns-4 : tie.Need-returns-4
 returns-4 c = let a = c .before .before .before .before .args in c .is-grade2 .ensures ∙ sym (title-M (a .a) (a .b) (a .c) (c .before .before .if3 .left) (c .before .if4 .taken))

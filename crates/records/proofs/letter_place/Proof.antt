@@ -2,7 +2,6 @@
 use mathlib.Core.Path.{refl, sym, ap}
 use borrow.Author.Tests.{ne-eqb}
 use Rattle.records.specs.Scoring.{letterPlace}
-use borrow.Author.Needs.{needs}
 use Rattle.records.proofs.letter_place.Statement.{statement}
 use Rattle.records.proofs.letter_place.Tie as tie
 

@@ -1,7 +1,6 @@
 -- `records::no_row` meets its contract. Assumes nothing.
 use mathlib.Core.Path.{refl}
 use Rattle.records.specs.Players.{asRow}
-use borrow.Author.Needs.{needs}
 use Rattle.records.proofs.no_row.Statement.{statement}
 use Rattle.records.proofs.no_row.Tie as tie
 

@@ -1,7 +1,6 @@
 -- `records::no_slots` meets its contract. Assumes nothing.
 use mathlib.Core.Path.{refl}
 use Rattle.records.specs.Players.{asSlots}
-use borrow.Author.Needs.{needs}
 use Rattle.records.proofs.no_slots.Statement.{statement}
 use Rattle.records.proofs.no_slots.Tie as tie
 

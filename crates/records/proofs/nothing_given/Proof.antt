@@ -8,7 +8,6 @@ use Rattle.kit.specs.Decides.{when}
 use Rattle.law.specs.Scoring.{values, defaults, scoringOf}
 use Rattle.records.specs.Scoring.{asGiven, seenIn, valuesOf}
 use Rattle.records.proofs.ScoringSlots.{none-yet}
-use borrow.Author.Needs.{needs}
 use Rattle.records.proofs.nothing_given.Statement.{statement}
 use Rattle.records.proofs.nothing_given.Tie as tie
 

@@ -30,7 +30,7 @@ returns-4 : tie.Need-returns-4
 returns-4 c = rw (sym (c .before .before .before .before .before .before .before .blank-at .ensures) ∙ not-false _ (c .before .before .before .before .before .before .if1 .left), sym (c .before .before .before .before .before .blank-at2 .ensures) ∙ not-false _ (c .before .before .before .before .if2 .left), sym (c .before .before .before .blank-at3 .ensures) ∙ not-false _ (c .before .before .if3 .left), sym (c .before .blank-at4 .ensures) ∙ not-true _ (c .if4 .taken)) refl
 
 rounds-else-blank-requires : tie.Need-rounds-else-blank-requires
-rounds-else-blank-requires c κs = search needs
+rounds-else-blank-requires c κs = tt
 
 returns-5 : tie.Need-returns-5
 returns-5 c = rw (sym (c .before .before .before .before .before .before .before .before .blank-at .ensures) ∙ not-false _ (c .before .before .before .before .before .before .before .if1 .left), sym (c .before .before .before .before .before .before .blank-at2 .ensures) ∙ not-false _ (c .before .before .before .before .before .if2 .left), sym (c .before .before .before .before .blank-at3 .ensures) ∙ not-false _ (c .before .before .before .if3 .left), sym (c .before .before .blank-at4 .ensures) ∙ not-false _ (c .before .if4 .left)) (c .rounds-else-blank .ensures)

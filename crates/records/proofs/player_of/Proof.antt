@@ -10,10 +10,10 @@ use Rattle.records.proofs.player_of.Statement.{statement}
 use Rattle.records.proofs.player_of.Tie as tie
 
 player-else-blank-requires : tie.Need-player-else-blank-requires
-player-else-blank-requires c κs = search needs
+player-else-blank-requires c κs = tt
 
 no-row-requires : tie.Need-no-row-requires
-no-row-requires c κs = search needs
+no-row-requires c κs = tt
 
 returns : tie.Need-returns
 returns c =
@@ -22,13 +22,13 @@ returns c =
     (sym (c .before .before .player-else-blank .ensures) ∙ not-true _ (c .before .if1 .taken))
 
 kept-of-requires : tie.Need-kept-of-requires
-kept-of-requires c κs = search needs
+kept-of-requires c κs = tt
 
 is-kept-requires : tie.Need-is-kept-requires
-is-kept-requires c κs = search needs
+is-kept-requires c κs = tt
 
 no-row-requires-2 : tie.Need-no-row-requires-2
-no-row-requires-2 c κs = search needs
+no-row-requires-2 c κs = tt
 
 returns-2 : tie.Need-returns-2
 returns-2 c =
@@ -43,7 +43,7 @@ enum-known-start : tie.Need-enum-known-start
 enum-known-start c = search needs
 
 no-row-requires-3 : tie.Need-no-row-requires-3
-no-row-requires-3 c κs = search needs
+no-row-requires-3 c κs = tt
 
 returns-3 : tie.Need-returns-3
 returns-3 c =
@@ -62,7 +62,7 @@ enum-told : tie.Need-enum-told
 enum-told c = search needs
 
 no-row-requires-4 : tie.Need-no-row-requires-4
-no-row-requires-4 c κs = search needs
+no-row-requires-4 c κs = tt
 
 returns-4 : tie.Need-returns-4
 returns-4 c =
@@ -78,7 +78,7 @@ enum-known-rank : tie.Need-enum-known-rank
 enum-known-rank c = search needs
 
 no-row-requires-5 : tie.Need-no-row-requires-5
-no-row-requires-5 c κs = search needs
+no-row-requires-5 c κs = tt
 
 returns-5 : tie.Need-returns-5
 returns-5 c =
@@ -89,10 +89,10 @@ returns-5 c =
     (not-found _ _ (c .before .before .counted-at2 .ensures) (c .before .match3 .keys2))
 
 slots-of-requires : tie.Need-slots-of-requires
-slots-of-requires c κs = search needs
+slots-of-requires c κs = tt
 
 no-row-requires-6 : tie.Need-no-row-requires-6
-no-row-requires-6 c κs = search needs
+no-row-requires-6 c κs = tt
 
 returns-6 : tie.Need-returns-6
 returns-6 c =

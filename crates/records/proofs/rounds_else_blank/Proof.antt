@@ -49,7 +49,7 @@ loop-again c =
     (search needs, l .loop .inv .1 ∙ between-turn (c .before .before .before .before .before .args .line .now) (l .loop .i) (c .before .before .loop-test .taken) true (sym (c .before .round-else-blank .ensures) ∙ not-false _ (c .if1 .left)))
 
 blank-from-requires : tie.Need-blank-from-requires Inv-loop μ-loop
-blank-from-requires c κs = search needs
+blank-from-requires c κs = tt
 
 returns-2 : tie.Need-returns-2 Inv-loop μ-loop
 returns-2 c =

@@ -42,7 +42,7 @@ returns-6 : tie.Need-returns-6
 returns-6 c = rw (sym (c .before .before .before .before .before .before .before .before .before .before .before .blank-at .ensures) ∙ not-false _ (c .before .before .before .before .before .before .before .before .before .before .if1 .left), sym (c .before .before .before .before .before .before .before .before .before .blank-at2 .ensures) ∙ not-false _ (c .before .before .before .before .before .before .before .before .if2 .left), sym (c .before .before .before .before .before .before .before .blank-at3 .ensures) ∙ not-false _ (c .before .before .before .before .before .before .if3 .left), sym (c .before .before .before .before .before .blank-at4 .ensures) ∙ not-false _ (c .before .before .before .before .if4 .left), sym (c .before .before .before .blank-at5 .ensures) ∙ not-false _ (c .before .before .if5 .left), sym (c .before .blank-at6 .ensures) ∙ not-true _ (c .if6 .taken)) refl
 
 blank-from-requires : tie.Need-blank-from-requires
-blank-from-requires c κs = search needs
+blank-from-requires c κs = tt
 
 returns-7 : tie.Need-returns-7
 returns-7 c = rw (sym (c .before .before .before .before .before .before .before .before .before .before .before .before .blank-at .ensures) ∙ not-false _ (c .before .before .before .before .before .before .before .before .before .before .before .if1 .left), sym (c .before .before .before .before .before .before .before .before .before .before .blank-at2 .ensures) ∙ not-false _ (c .before .before .before .before .before .before .before .before .before .if2 .left), sym (c .before .before .before .before .before .before .before .before .blank-at3 .ensures) ∙ not-false _ (c .before .before .before .before .before .before .before .if3 .left), sym (c .before .before .before .before .before .before .blank-at4 .ensures) ∙ not-false _ (c .before .before .before .before .before .if4 .left), sym (c .before .before .before .before .blank-at5 .ensures) ∙ not-false _ (c .before .before .before .if5 .left), sym (c .before .before .blank-at6 .ensures) ∙ not-false _ (c .before .if6 .left)) (c .blank-from .ensures)

@@ -21,10 +21,10 @@ add-column : tie.Need-add-column
 add-column c = search needs
 
 column-requires : tie.Need-column-requires
-column-requires c κs = search needs
+column-requires c κs = tt
 
 is-slot-colour-requires : tie.Need-is-slot-colour-requires
-is-slot-colour-requires c κs = search needs
+is-slot-colour-requires c κs = tt
 
 returns : tie.Need-returns
 returns c =
@@ -36,13 +36,13 @@ add-column-2 : tie.Need-add-column-2
 add-column-2 c = search needs
 
 column-requires-2 : tie.Need-column-requires-2
-column-requires-2 c κs = search needs
+column-requires-2 c κs = tt
 
 capital-requires : tie.Need-capital-requires
-capital-requires c κs = search needs
+capital-requires c κs = tt
 
 is-slot-result-requires : tie.Need-is-slot-result-requires
-is-slot-result-requires c κs = search needs
+is-slot-result-requires c κs = tt
 
 returns-2 : tie.Need-returns-2
 returns-2 c =

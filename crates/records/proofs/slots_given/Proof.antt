@@ -18,7 +18,7 @@ abbrev μ-loop : tie.MeasureT-loop
 μ-loop line given₀ i₀ given i = i
 
 nothing-given-requires : tie.Need-nothing-given-requires Inv-loop μ-loop
-nothing-given-requires c κs = search needs
+nothing-given-requires c κs = tt
 
 loop-holds : tie.Need-loop-holds Inv-loop μ-loop
 loop-holds c = (search needs, c .nothing-given .ensures)

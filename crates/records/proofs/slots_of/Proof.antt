@@ -29,7 +29,7 @@ enum-told : tie.Need-enum-told Inv-loop μ-loop
 enum-told c = search needs
 
 no-slots-requires : tie.Need-no-slots-requires Inv-loop μ-loop
-no-slots-requires c κs = search needs
+no-slots-requires c κs = tt
 
 returns : tie.Need-returns Inv-loop μ-loop
 returns c =

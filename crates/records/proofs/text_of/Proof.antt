@@ -6,18 +6,17 @@ use Rattle.law.specs.Columns.{isBlank}
 use Rattle.records.specs.Records.{asText}
 use Rattle.records.specs.declared.Text.the-variants.{Kept}
 use Rattle.records.proofs.Codes.{text-by-tests}
-use borrow.Author.Needs.{needs}
 use Rattle.records.proofs.text_of.Statement.{statement}
 use Rattle.records.proofs.text_of.Tie as tie
 
 column-requires : tie.Need-column-requires
-column-requires c κs = search needs
+column-requires c κs = tt
 
 returns : tie.Need-returns
 returns c = sym (ap asText (text-by-tests (c .before .before .before .args .line .now) false _ (sym (ap isBlank (c .before .column .ensures)) ∙ ne-eqb _ _ (c .if1 .taken)) refl))
 
 says-name-requires : tie.Need-says-name-requires
-says-name-requires c κs = search needs
+says-name-requires c κs = tt
 
 returns-2 : tie.Need-returns-2
 returns-2 c =
@@ -25,7 +24,7 @@ returns-2 c =
     (sym (c .before .says-name .ensures) ∙ not-true _ (c .if2 .taken))))
 
 trimmed-requires : tie.Need-trimmed-requires
-trimmed-requires c κs = search needs
+trimmed-requires c κs = tt
 
 returns-3 : tie.Need-returns-3
 returns-3 c =

@@ -14,10 +14,10 @@ use Rattle.records.proofs.value_at.Statement.{statement}
 use Rattle.records.proofs.value_at.Tie as tie
 
 column-requires : tie.Need-column-requires
-column-requires c κs = search needs
+column-requires c κs = tt
 
 letter-place-requires : tie.Need-letter-place-requires
-letter-place-requires c κs = search needs
+letter-place-requires c κs = tt
 
 returns : tie.Need-returns
 returns c =

@@ -10,7 +10,7 @@ use Rattle.records.proofs.with_slot.Statement.{statement}
 use Rattle.records.proofs.with_slot.Tie as tie
 
 nothing-given-requires : tie.Need-nothing-given-requires
-nothing-given-requires c κs = search needs
+nothing-given-requires c κs = tt
 
 returns : tie.Need-returns
 returns c = λ after is. c .nothing-given .ensures ∙ after-bad (cells (c .before .before .before .before .args .line .now) (c .before .before .before .before .args .from) 5) after (c .before .before .before .before .args .given) is (not-true _ (c .before .if1 .taken))
@@ -19,7 +19,7 @@ blank-at-requires : tie.Need-blank-at-requires
 blank-at-requires c κs = search needs
 
 nothing-given-requires-2 : tie.Need-nothing-given-requires-2
-nothing-given-requires-2 c κs = search needs
+nothing-given-requires-2 c κs = tt
 
 returns-2 : tie.Need-returns-2
 returns-2 c = λ after is. c .nothing-given2 .ensures ∙ blank-late (cells (c .before .before .before .before .before .before .before .args .line .now) (c .before .before .before .before .before .before .before .args .from) 5) after (c .before .before .before .before .before .before .before .args .given) is (sym (c .before .before .before .blank-at .ensures) ∙ c .before .before .if2 .taken) (c .before .if3 .taken)
@@ -37,7 +37,7 @@ enum-told : tie.Need-enum-told
 enum-told c = search needs
 
 nothing-given-requires-3 : tie.Need-nothing-given-requires-3
-nothing-given-requires-3 c κs = search needs
+nothing-given-requires-3 c κs = tt
 
 returns-4 : tie.Need-returns-4
 returns-4 c = λ after is. c .nothing-given3 .ensures ∙ slot-bad (cells (c .before .before .before .before .before .before .before .before .before .args .line .now) (c .before .before .before .before .before .before .before .before .before .args .from) 5) after (c .before .before .before .before .before .before .before .before .before .args .given) is (sym (c .before .before .before .before .before .blank-at .ensures) ∙ c .before .before .before .before .if2 .left) (sym (c .before .before .before .value-at .ensures) ∙ c .before .enum-told .given .1)
@@ -46,7 +46,7 @@ array-read-if4 : tie.Need-array-read-if4
 array-read-if4 c = slot-place (cells (c .before .before .before .before .before .before .before .before .before .before .args .line .now) (c .before .before .before .before .before .before .before .before .before .before .args .from) 5) _ _ (sym (c .before .before .before .before .value-at .ensures) ∙ c .before .before .letter .given .1)
 
 nothing-given-requires-4 : tie.Need-nothing-given-requires-4
-nothing-given-requires-4 c κs = search needs
+nothing-given-requires-4 c κs = tt
 
 returns-5 : tie.Need-returns-5
 returns-5 c =

@@ -2,18 +2,17 @@
 use mathlib.Core.Path.{refl, sym, _∙_}
 use borrow.Author.Tests.{not-true, not-false}
 use Rattle.records.proofs.ScoringSlots.{not-blank, none-filled, some-filled}
-use borrow.Author.Needs.{needs}
 use Rattle.records.proofs.Scoring.from_line.Statement.{statement}
 use Rattle.records.proofs.Scoring.from_line.Tie as tie
 
 scoring-else-blank-requires : tie.Need-scoring-else-blank-requires
-scoring-else-blank-requires c κs = search needs
+scoring-else-blank-requires c κs = tt
 
 returns : tie.Need-returns
 returns c = sym (not-blank (c .before .before .before .args .line .now) (sym (c .before .scoring-else-blank .ensures) ∙ not-true _ (c .if1 .taken)))
 
 slots-given-requires : tie.Need-slots-given-requires
-slots-given-requires c κs = search needs
+slots-given-requires c κs = tt
 
 returns-2 : tie.Need-returns-2
 returns-2 c =
