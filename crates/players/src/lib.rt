@@ -4,19 +4,30 @@ ghost use mathlib.Core.Path.{_≡_};
 ghost use mathlib.Core.Bool.{false};
 ghost use mathlib.Core.Option.{some};
 ghost use mathlib.Core.List.{List};
-ghost use Prim.Native.Nat.{ℕ, _<_, _≤_};
+ghost use Prim.Native.Nat.{ℕ, _+_, _<_, _≤_};
 ghost use lib.ListN.{length, getD};
 ghost use Rattle.law.specs.Sizes.{mostPlayers, mostRounds};
 ghost use Rattle.law.specs.Players.{PlayerLine};
 ghost use Rattle.law.specs.Tables.{keptCells, entryCells, lineCells};
-ghost use Rattle.join.specs.Store.{storePlayer};
+ghost use Rattle.law.proofs.RecordsRead.{playerOf};
+ghost use Rattle.join.specs.Store.{state, storePlayer, countPlayer, stepPlayer};
 ghost use Rattle.join.specs.Kept.{Long};
 ghost use Rattle.records.specs.Players.{asRow};
 ghost use Rattle.tables.specs.Lent.{nine};
+ghost use Rattle.checks.specs.Laws.{Indexed};
+ghost use Rattle.steps.specs.Counts.{asCount, went};
 ghost use Rattle.players.specs.Stored.{rawId, rawLetter};
+use checks::Placed;
+use checks::START_CELLS;
 use records::Row;
+use steps::Counts;
+use steps::Stepped;
 use tables::MOST_ROUNDS;
-use types::{LineNumber, Place};
+use types::LineNumber;
+use types::Place;
+
+// The most players.
+const PLAYERS: usize = 200;
 
 // What is stored of an id, and of a colour or result: 0 where the round is wholly blank.
 fn id_stored(id: u32, used: bool) -> u32
@@ -104,4 +115,74 @@ pub fn store_player(
     let codes = row.results;
     tables::store_letters(results, place, letters_stored(ids, codes, used, b'Z'));
     tables::store_line(lines, place, line);
+}
+
+// One player more.
+fn with_player(c: Counts) -> Counts
+    requires { ⌜ c .players ≤ mostPlayers ⌝ }
+    ensures { λ r. ⌜ asCount r ≡ countPlayer (asCount c) ⌝ }
+{
+    let mut counts = c;
+    counts.players = c.players + 1;
+    counts
+}
+
+// A 001 line: number is the line's. The index is of the players' start numbers, before and after.
+pub fn step_player(
+    line: &[u8],
+    number: LineNumber,
+    c: Counts,
+    index: &mut [u16; START_CELLS],
+    starts: &mut [u32],
+    points: &mut [u32],
+    ranks: &mut [u32],
+    kept: &mut [u8],
+    opponents: &mut [u32],
+    colours: &mut [u8],
+    results: &mut [u8],
+    lines: &mut [u32],
+) -> Stepped
+    requires { ⌜ ((text : List ℕ) → Long (nine (now starts) (now points) (now ranks) (now kept) (now opponents) (now colours) (now results) text (now lines))) ⌝ }
+    requires { ⌜ Indexed (now starts) (c .players) (now index) ⌝ }
+    ensures { λ r. ⌜ ((ln : ℕ) (text : List ℕ) → number .0 ≡ ln + 1 → went ln r (nine (now (starts .exit)) (now (points .exit)) (now (ranks .exit)) (now (kept .exit)) (now (opponents .exit)) (now (colours .exit)) (now (results .exit)) text (now (lines .exit))) ≡ stepPlayer (playerOf (now (line .entry))) (state ln (asCount c) (nine (now (starts .entry)) (now (points .entry)) (now (ranks .entry)) (now (kept .entry)) (now (opponents .entry)) (now (colours .entry)) (now (results .entry)) text (now (lines .entry))))) × Indexed (now (starts .exit)) (r .counts .players) (now (index .exit)) ⌝ }
+{
+    let row = records::player_of(line);
+    if !row.good {
+        return Stepped {
+            fault: 7,
+            counts: c,
+        };
+    }
+    let start = row.start;
+    let Placed::Nobody = checks::place_of(index, start.0) else {
+        return Stepped {
+            fault: 8,
+            counts: c,
+        };
+    };
+    if PLAYERS < c.players + 1 {
+        return Stepped {
+            fault: 9,
+            counts: c,
+        };
+    }
+    let place = Place(c.players as u32);
+    store_player(
+        row,
+        place,
+        number,
+        starts,
+        points,
+        ranks,
+        kept,
+        opponents,
+        colours,
+        results,
+        lines,
+    );
+    checks::index_start(index, start, place);
+    Stepped {
+        fault: 0,
+        counts: with_player(c),
+    }
 }
