@@ -113,7 +113,7 @@ returns-4 c =
     let more = c .with-player .ensures in (
       λ ln text e.
           player-on ln (asCount (a .c)) (nine (now (a .starts)) (now (a .points)) (now (a .ranks)) (now (a .kept)) (now (a .opponents)) (now (a .colours)) (now (a .results)) text (now (a .lines))) row _ f told nobody room more (stored (f .player) text (f .row-is) ∙ ap (λ (n : ℕ). storePlayer (f .player) (a .c .players) n (nine (now (a .starts)) (now (a .points)) (now (a .ranks)) (now (a .kept)) (now (a .opponents)) (now (a .colours)) (now (a .results)) text (now (a .lines)))) e),
-      indexed-more (now (a .starts)) (now (a .index)) (a .c .players) _ (s .pre .1) (s .pre .0 [] .starts) (f .low) room told nobody
+      indexed-more (now (a .starts)) (now (a .index)) (a .c .players) _ (s .pre .1) (s .pre .0 .starts-long) (f .low) room told nobody
           (starts-of (f .player) (a .c .players) (a .number .0) (nine (now (a .starts)) (now (a .points)) (now (a .ranks)) (now (a .kept)) (now (a .opponents)) (now (a .colours)) (now (a .results)) [] (now (a .lines))) (stored (f .player) [] (f .row-is)) ∙ ap (set (now (a .starts)) (a .c .players)) (sym (f .start-is))) (players-of (asCount (a .c)) more) (c .before .index-start .ensures),
     )
 

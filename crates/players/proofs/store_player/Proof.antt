@@ -1,5 +1,4 @@
 -- `players::store_player` meets its contract. Assumes nothing.
-use mathlib.Core.List.{[]}
 use denote.Ref.{now}
 use borrow.Author.Needs.{needs}
 use Rattle.tables.specs.Lent.{nine}
@@ -10,22 +9,22 @@ use Rattle.players.proofs.store_player.Tie as tie
 store-number-requires : tie.Need-store-number-requires
 store-number-requires c κs =
     let s = c .before .before .before .before .before .before .before .before .before in
-    (s .pre .0, s .pre .1 [] .starts)
+    (s .pre .0, s .pre .1 .starts-long)
 
 store-number-requires-2 : tie.Need-store-number-requires-2
 store-number-requires-2 c κs =
     let s = c .before .before .before .before .before .before .before .before .before .before .before .before .before in
-    (s .pre .0, s .pre .1 [] .points)
+    (s .pre .0, s .pre .1 .points-long)
 
 store-number-requires-3 : tie.Need-store-number-requires-3
 store-number-requires-3 c κs =
     let s = c .before .before .before .before .before .before .before .before .before .before .before .before .before .before .before .before .before in
-    (s .pre .0, s .pre .1 [] .ranks)
+    (s .pre .0, s .pre .1 .ranks-long)
 
 store-kept-requires : tie.Need-store-kept-requires
 store-kept-requires c κs =
     let s = c .before .before .before .before .before .before .before .before .before .before .before .before .before .before .before .before .before .before .before .before .before .before in
-    (s .pre .0, s .pre .1 [] .kept)
+    (s .pre .0, s .pre .1 .kept-long)
 
 ids-stored-requires : tie.Need-ids-stored-requires
 ids-stored-requires c κs = search needs
@@ -33,7 +32,7 @@ ids-stored-requires c κs = search needs
 store-numbers-requires : tie.Need-store-numbers-requires
 store-numbers-requires c κs =
     let s = c .before .before .before .before .before .before .before .before .before .before .before .before .before .before .before .before .before .before .before .before .before .before .before .before .before .before .before .before .before in
-    (s .pre .0, s .pre .1 [] .opponents)
+    (s .pre .0, s .pre .1 .opponents-long)
 
 letters-stored-requires : tie.Need-letters-stored-requires
 letters-stored-requires c κs = search needs
@@ -41,7 +40,7 @@ letters-stored-requires c κs = search needs
 store-letters-requires : tie.Need-store-letters-requires
 store-letters-requires c κs =
     let s = c .before .before .before .before .before .before .before .before .before .before .before .before .before .before .before .before .before .before .before .before .before .before .before .before .before .before .before .before .before .before .before .before .before .before .before in
-    (s .pre .0, s .pre .1 [] .colours)
+    (s .pre .0, s .pre .1 .colours-long)
 
 letters-stored-requires-2 : tie.Need-letters-stored-requires-2
 letters-stored-requires-2 c κs = search needs
@@ -49,12 +48,12 @@ letters-stored-requires-2 c κs = search needs
 store-letters-requires-2 : tie.Need-store-letters-requires-2
 store-letters-requires-2 c κs =
     let s = c .before .before .before .before .before .before .before .before .before .before .before .before .before .before .before .before .before .before .before .before .before .before .before .before .before .before .before .before .before .before .before .before .before .before .before .before .before .before .before .before .before in
-    (s .pre .0, s .pre .1 [] .results)
+    (s .pre .0, s .pre .1 .results-long)
 
 store-line-requires : tie.Need-store-line-requires
 store-line-requires c κs =
     let s = c .before .before .before .before .before .before .before .before .before .before .before .before .before .before .before .before .before .before .before .before .before .before .before .before .before .before .before .before .before .before .before .before .before .before .before .before .before .before .before .before .before .before .before .before .before in
-    (s .pre .0, s .pre .1 [] .lines)
+    (s .pre .0, s .pre .1 .lines-long)
 
 same-length : tie.Need-same-length
 same-length c = c .before .before .before .before .before .before .before .before .before .before .before .before .before .before .before .before .before .before .before .before .before .before .before .before .before .before .before .before .before .before .before .before .before .before .before .before .before .before .store-number .kept .0
