@@ -1,11 +1,9 @@
 -- The counts and what a step answers, as join says them.
-use mathlib.Core.Path.{_≡_}
 use mathlib.Core.Bool.{cond}
 use mathlib.Core.List.{List, [], _∷_}
-use Prim.Native.Nat.{ℕ, _+_, _≤_}
+use Prim.Native.Nat.{ℕ, _+_}
 use Prim.Native.Char.{code}
 use lib.Dec.{eqb}
-use Rattle.law.specs.Sizes.{mostPlayers, mostAccelerations, mostText}
 use Rattle.law.specs.Text.{textCodes}
 use Rattle.join.specs.Run.{Way, on, stop}
 use Rattle.join.specs.Store.{Nine, Count, State, state, codePlace}
@@ -30,12 +28,6 @@ asCount c =
 -- the step of a line after ln others, and what it leaves: 0 and the state after it, or a fault and the state as it was
 abbrev pub went : ℕ → Stepped → Nine → Way State ℕ
 went ln r t = cond (eqb (r .fault) 0) (on (state (ln + 1) (asCount (r .counts)) t)) (stop (r .fault) (state ln (asCount (r .counts)) t))
-
--- no more than there can be
-pub record Small (c : Counts) : Type 0 where
-  pub players : c .players ≤ mostPlayers
-  pub accelerations : c .accelerations ≤ mostAccelerations
-  pub text : c .text ≤ mostText
 
 -- the place among the sixteen of a text code, which ends with 2, by its first two bytes
 abbrev pub placeOfCode : ℕ → ℕ → ℕ

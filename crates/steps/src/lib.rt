@@ -11,7 +11,7 @@ ghost use Rattle.law.specs.Items as items;
 ghost use Rattle.law.specs.Tables.{lineCells};
 ghost use Rattle.law.proofs.RecordsRead.{textOf, roundsOfRow, colourOf, givenOf, accelerationOf};
 ghost use Rattle.join.specs.Store.{Nine, state, countText, countRounds, countColour, countScoring, countAcceleration, codePlace, stepText, stepRounds, stepColour, stepScoring, stepAcceleration};
-ghost use Rattle.steps.specs.Counts.{asCount, went, placeOfCode, placeIn0, placeIn1, placeIn2, Small, withText, withLines};
+ghost use Rattle.steps.specs.Counts.{asCount, went, placeOfCode, placeIn0, placeIn1, placeIn2, withText, withLines};
 use records::Accelerated;
 use records::Initial;
 use records::Rounds;
@@ -169,7 +169,7 @@ fn text_place(line: &[u8]) -> usize
     place_of_code(a, b)
 }
 
-fn step_text(line: &[u8], c: Counts, text: &mut [u8]) -> Stepped
+pub fn step_text(line: &[u8], c: Counts, text: &mut [u8]) -> Stepped
     requires { ⌜ (items.kindOf (now line) ≡ items.kept-text) × (length (now line) ≤ mostLine) × (c .text ≤ mostText) × (mostText ≤ length (now text)) ⌝ }
     ensures { λ r. ⌜ ((ln : ℕ) (t : Nine) → went ln r (withText t (now (text .exit))) ≡ stepText (textOf (now (line .entry))) (codePlace (part codeField (now (line .entry))) 0 textCodes) (state ln (asCount c) (withText t (now (text .entry))))) ⌝ }
 {
@@ -201,7 +201,7 @@ fn step_text(line: &[u8], c: Counts, text: &mut [u8]) -> Stepped
 }
 
 // A 142 line.
-fn step_rounds(line: &[u8], c: Counts) -> Stepped
+pub fn step_rounds(line: &[u8], c: Counts) -> Stepped
     ensures { λ r. ⌜ ((ln : ℕ) (t : Nine) → went ln r t ≡ stepRounds (roundsOfRow (now (line .entry))) (state ln (asCount c) t)) ⌝ }
 {
     let Rounds::Given(n) = records::rounds_of(line) else {
@@ -223,7 +223,7 @@ fn step_rounds(line: &[u8], c: Counts) -> Stepped
 }
 
 // A 152 line.
-fn step_colour(line: &[u8], c: Counts) -> Stepped
+pub fn step_colour(line: &[u8], c: Counts) -> Stepped
     ensures { λ r. ⌜ ((ln : ℕ) (t : Nine) → went ln r t ≡ stepColour (colourOf (now (line .entry))) (state ln (asCount c) t)) ⌝ }
 {
     let Initial::Letter(colour) = records::colour_of(line) else {
@@ -245,7 +245,7 @@ fn step_colour(line: &[u8], c: Counts) -> Stepped
 }
 
 // A 162 line.
-fn step_scoring(line: &[u8], c: Counts) -> Stepped
+pub fn step_scoring(line: &[u8], c: Counts) -> Stepped
     ensures { λ r. ⌜ ((ln : ℕ) (t : Nine) → went ln r t ≡ stepScoring (givenOf (now (line .entry))) (state ln (asCount c) t)) ⌝ }
 {
     let read = Scoring::from_line(line);
@@ -269,7 +269,7 @@ fn step_scoring(line: &[u8], c: Counts) -> Stepped
 }
 
 // A 250 line.
-fn step_acceleration(line: &[u8], number: LineNumber, c: Counts, lines: &mut [u32]) -> Stepped
+pub fn step_acceleration(line: &[u8], number: LineNumber, c: Counts, lines: &mut [u32]) -> Stepped
     requires { ⌜ (c .accelerations ≤ mostAccelerations) × (lineCells ≤ length (now lines)) ⌝ }
     ensures { λ r. ⌜ ((ln : ℕ) (t : Nine) → number .0 ≡ ln + 1 → went ln r (withLines t (now (lines .exit))) ≡ stepAcceleration (accelerationOf (now (line .entry))) (state ln (asCount c) (withLines t (now (lines .entry))))) ⌝ }
 {

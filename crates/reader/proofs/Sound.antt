@@ -1,0 +1,28 @@
+-- A line that has its terminator: 3, 5, or what its kind does. Assumes nothing.
+use mathlib.Core.Path.{_≡_, refl, sym, ap, _∙_}
+use mathlib.Core.Bool.{true, false, not}
+use mathlib.Core.List.{List}
+use Prim.Native.Nat.{ℕ, _≤_, _<_}
+use lib.ListN.{length}
+use borrow.Author.Tests.{lt-ltb, le-ltb}
+use Rattle.kit.specs.Lists.{all}
+use Rattle.law.specs.Sizes.{mostLine}
+use Rattle.law.specs.Lines.{allowed, End}
+use Rattle.law.specs.Items.{Kind, kindOf}
+use Rattle.join.specs.Run.{Way, on, stop}
+use Rattle.join.specs.Store.{State, stepRow, stepLine}
+use Rattle.reader.specs.Lined.{lineOf}
+
+module _ (text : List ℕ) (end : End) (s : State) where
+  pub bad-byte : all allowed text ≡ false → stop 3 s ≡ stepLine (lineOf text end) s
+  unfolding stepLine
+  bad-byte e = rw e refl
+
+  module _ (e : all allowed text ≡ true) where
+    pub too-long : mostLine < length text → stop 5 s ≡ stepLine (lineOf text end) s
+    unfolding stepLine
+    too-long l = rw (e, lt-ltb mostLine (length text) l) refl
+
+    pub by-kind : (k : Kind) → length text ≤ mostLine → kindOf text ≡ k → stepRow k text s ≡ stepLine (lineOf text end) s
+    unfolding stepLine
+    by-kind k l q = rw (e, le-ltb mostLine (length text) l, q) refl
