@@ -1,14 +1,21 @@
 // The reader: line by line into the tables, then the checks, then the answer. Promised: what the statement says of a reading.
 ghost use mathlib.Core.Path.{_≡_};
+ghost use mathlib.Core.Bool.{false};
 ghost use Prim.Native.Nat.{ℕ, _+_, _≤_};
+ghost use lib.ListN.{length};
+ghost use Rattle.law.specs.Sizes.{mostFile};
 ghost use Rattle.law.specs.Lines.{End};
+ghost use Rattle.law.proofs.Cut.{cut};
+ghost use Rattle.join.specs.Run.{runAll};
 ghost use Rattle.join.specs.Store.{state, stepLine};
 ghost use Rattle.join.specs.Kept.{Long};
 ghost use Rattle.tables.specs.Lent.{lent, before, after};
 ghost use Rattle.checks.specs.Laws.{Indexed};
 ghost use Rattle.steps.specs.Counts.{asCount, went};
-ghost use Rattle.reader.specs.Lined.{lineOf, Small};
+ghost use Rattle.reader.specs.Lined.{lineOf, Small, ran, brokenFault};
 use checks::START_CELLS;
+use lines::Cursor;
+use lines::Step;
 use records::Kind;
 use steps::Counts;
 use steps::Stepped;
@@ -78,5 +85,96 @@ fn step(
             fault: 6,
             counts: c,
         },
+    }
+}
+
+// What the lines left: the first that is refused, with its refusal, or 0 and how many there are; and the counts of those before it.
+pub struct Ran {
+    pub fault: u32,
+    pub line: LineNumber,
+    pub counts: Counts,
+}
+
+// The refusal of a last line that lacks its terminator.
+fn broken_fault(line: &[u8]) -> u32
+    ensures { λ r. ⌜ r ≡ brokenFault (now (line .entry)) ⌝ }
+{
+    if !lines::all_allowed(line) {
+        return 3;
+    }
+    4
+}
+
+// The lines of a file, one after the other.
+fn run(
+    file: &[u8],
+    none: Counts,
+    index: &mut [u16; START_CELLS],
+    starts: &mut [u32],
+    points: &mut [u32],
+    ranks: &mut [u32],
+    kept: &mut [u8],
+    opponents: &mut [u32],
+    colours: &mut [u8],
+    results: &mut [u8],
+    text: &mut [u8],
+    lines: &mut [u32],
+) -> Ran
+    requires { ⌜ length (now file) ≤ mostFile ⌝ }
+    requires { ⌜ Long (lent starts points ranks kept opponents colours results text lines) ⌝ }
+    requires { ⌜ Indexed (now starts) (none .players) (now index) ⌝ }
+    requires { ⌜ Small none ⌝ }
+    ensures { λ r. ⌜ (ran r (after starts points ranks kept opponents colours results text lines) ≡ runAll stepLine (cut false (now (file .entry))) 0 (state 0 (asCount none) (before starts points ranks kept opponents colours results text lines))) × Indexed (now (starts .exit)) (r .counts .players) (now (index .exit)) × Small (r .counts) ⌝ }
+{
+    let mut c = none;
+    let mut cursor = Cursor::new();
+    let mut ln: u32 = 0;
+    loop {
+        match cursor.next_line(file) {
+            Step::Done => {
+                return Ran {
+                    fault: 0,
+                    line: LineNumber(ln),
+                    counts: c,
+                };
+            }
+            Step::Broken { from, to } => {
+                let line = &file[from..to];
+                return Ran {
+                    fault: broken_fault(line),
+                    line: LineNumber(ln + 1),
+                    counts: c,
+                };
+            }
+            Step::Whole { from, to, next } => {
+                let line = &file[from..to];
+                let done = step(
+                    line,
+                    LineNumber(ln + 1),
+                    c,
+                    index,
+                    starts,
+                    points,
+                    ranks,
+                    kept,
+                    opponents,
+                    colours,
+                    results,
+                    text,
+                    lines,
+                );
+                let counts = done.counts;
+                if done.fault != 0 {
+                    return Ran {
+                        fault: done.fault,
+                        line: LineNumber(ln + 1),
+                        counts,
+                    };
+                }
+                c = counts;
+                cursor = next;
+                ln += 1;
+            }
+        }
     }
 }

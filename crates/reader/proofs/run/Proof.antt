@@ -1,0 +1,317 @@
+-- `reader::run` meets its contract. The loop's invariant: what is left of the run is the whole run. Assumes nothing.
+use mathlib.Core.Path.{_∙_}
+use Prim.Native.Nat.{_-_}
+use native.Mathlib.Omega.{arith}
+use lib.ListN.{length}
+use denote.Ref.{now}
+use Rattle.lines.proofs.Told.{told-done, told-broken, told-whole}
+use Rattle.tables.specs.Lent.{nine}
+use Rattle.reader.proofs.Going.{Going, long-as, going-none, going-done, going-broken, going-stop, going-next}
+use borrow.Author.Needs.{needs}
+use Rattle.reader.proofs.run.Statement.{statement}
+use Rattle.reader.proofs.run.Tie as tie
+
+abbrev Inv-loop : tie.InvT-loop
+Inv-loop file index₀ starts₀ points₀ ranks₀ kept₀ opponents₀ colours₀ results₀ text₀ lines₀ c₀ cursor₀ ln₀ index starts points ranks kept opponents colours results text lines c cursor ln =
+    Going file (nine starts₀ points₀ ranks₀ kept₀ opponents₀ colours₀ results₀ text₀ lines₀) c₀ (nine starts points ranks kept opponents colours results text lines) index c (cursor .at) ln
+
+abbrev μ-loop : tie.MeasureT-loop
+μ-loop file index₀ starts₀ points₀ ranks₀ kept₀ opponents₀ colours₀ results₀ text₀ lines₀ c₀ cursor₀ ln₀ index starts points ranks kept opponents colours results text lines c cursor ln =
+    length file - cursor .at
+
+new-requires : tie.Need-new-requires Inv-loop μ-loop
+new-requires c κs = search needs
+
+loop-holds : tie.Need-loop-holds Inv-loop μ-loop
+loop-holds c =
+    let s = c .before .before .before .before .before .before .before .before .before .before .before in
+    let a = s .args in
+    going-none (now (a .file)) (nine (now (a .starts)) (now (a .points)) (now (a .ranks)) (now (a .kept)) (now (a .opponents)) (now (a .colours)) (now (a .results)) (now (a .text)) (now (a .lines))) (a .none) (now (a .index)) _ (c .new .ensures) (s .pre .1 .1 .0) (s .pre .1 .1 .1)
+
+next-line-requires : tie.Need-next-line-requires Inv-loop μ-loop
+next-line-requires c κs = search needs
+
+enum-told : tie.Need-enum-told Inv-loop μ-loop
+enum-told c = search needs
+
+same-length : tie.Need-same-length Inv-loop μ-loop
+same-length c =
+    c .before .before .before .loop .inv .alike .starts
+
+same-length-2 : tie.Need-same-length-2 Inv-loop μ-loop
+same-length-2 c =
+    c .before .before .before .loop .inv .alike .points
+
+same-length-3 : tie.Need-same-length-3 Inv-loop μ-loop
+same-length-3 c =
+    c .before .before .before .loop .inv .alike .ranks
+
+same-length-4 : tie.Need-same-length-4 Inv-loop μ-loop
+same-length-4 c =
+    c .before .before .before .loop .inv .alike .kept
+
+same-length-5 : tie.Need-same-length-5 Inv-loop μ-loop
+same-length-5 c =
+    c .before .before .before .loop .inv .alike .opponents
+
+same-length-6 : tie.Need-same-length-6 Inv-loop μ-loop
+same-length-6 c =
+    c .before .before .before .loop .inv .alike .colours
+
+same-length-7 : tie.Need-same-length-7 Inv-loop μ-loop
+same-length-7 c =
+    c .before .before .before .loop .inv .alike .results
+
+same-length-8 : tie.Need-same-length-8 Inv-loop μ-loop
+same-length-8 c =
+    c .before .before .before .loop .inv .alike .text
+
+same-length-9 : tie.Need-same-length-9 Inv-loop μ-loop
+same-length-9 c =
+    c .before .before .before .loop .inv .alike .lines
+
+returns : tie.Need-returns Inv-loop μ-loop
+returns c =
+    let l = c .before .before .before .loop in
+    (going-done (l .inv) (told-done _ _ (c .before .before .next-line .ensures) (c .enum-told .given .1)), l .inv .indexed, l .inv .room)
+
+enum-known-from : tie.Need-enum-known-from Inv-loop μ-loop
+enum-known-from c = search needs
+
+sub-line : tie.Need-sub-line Inv-loop μ-loop
+sub-line c =
+    let m = told-broken _ _ (c .before .before .before .next-line .ensures) (c .before .from .given .1) in
+    search needs
+
+part-line-start : tie.Need-part-line-start Inv-loop μ-loop
+part-line-start c =
+    let m = told-broken _ _ (c .before .before .before .next-line .ensures) (c .before .from .given .1) in
+    search needs
+
+part-line-end : tie.Need-part-line-end Inv-loop μ-loop
+part-line-end c =
+    let m = told-broken _ _ (c .before .before .before .next-line .ensures) (c .before .from .given .1) in
+    search needs
+
+broken-fault-requires : tie.Need-broken-fault-requires Inv-loop μ-loop
+broken-fault-requires c κs = search needs
+
+add-t31 : tie.Need-add-t31 Inv-loop μ-loop
+add-t31 c =
+    let l = c .before .before .before .before .before .before .loop in
+    let i = l .inv in
+    let f = c .before .before .before .before .before .before .before .before .before .before .before .before .before .before .before .before .before .before .pre .0 in
+    search needs
+
+same-length-10 : tie.Need-same-length-10 Inv-loop μ-loop
+same-length-10 c =
+    c .before .before .before .before .before .before .loop .inv .alike .starts
+
+same-length-11 : tie.Need-same-length-11 Inv-loop μ-loop
+same-length-11 c =
+    c .before .before .before .before .before .before .loop .inv .alike .points
+
+same-length-12 : tie.Need-same-length-12 Inv-loop μ-loop
+same-length-12 c =
+    c .before .before .before .before .before .before .loop .inv .alike .ranks
+
+same-length-13 : tie.Need-same-length-13 Inv-loop μ-loop
+same-length-13 c =
+    c .before .before .before .before .before .before .loop .inv .alike .kept
+
+same-length-14 : tie.Need-same-length-14 Inv-loop μ-loop
+same-length-14 c =
+    c .before .before .before .before .before .before .loop .inv .alike .opponents
+
+same-length-15 : tie.Need-same-length-15 Inv-loop μ-loop
+same-length-15 c =
+    c .before .before .before .before .before .before .loop .inv .alike .colours
+
+same-length-16 : tie.Need-same-length-16 Inv-loop μ-loop
+same-length-16 c =
+    c .before .before .before .before .before .before .loop .inv .alike .results
+
+same-length-17 : tie.Need-same-length-17 Inv-loop μ-loop
+same-length-17 c =
+    c .before .before .before .before .before .before .loop .inv .alike .text
+
+same-length-18 : tie.Need-same-length-18 Inv-loop μ-loop
+same-length-18 c =
+    c .before .before .before .before .before .before .loop .inv .alike .lines
+
+returns-2 : tie.Need-returns-2 Inv-loop μ-loop
+returns-2 c =
+    let l = c .before .before .before .before .before .before .loop in
+    let m = told-broken _ _ (c .before .before .before .before .before .next-line .ensures) (c .before .before .before .from .given .1) in
+    (going-broken (l .inv) m (c .broken-fault .ensures), l .inv .indexed, l .inv .room)
+
+enum-known-from-2 : tie.Need-enum-known-from-2 Inv-loop μ-loop
+enum-known-from-2 c = search needs
+
+sub-line-2 : tie.Need-sub-line-2 Inv-loop μ-loop
+sub-line-2 c =
+    let m = told-whole _ _ (c .before .before .before .next-line .ensures) (c .before .from2 .given .1) in
+    search needs
+
+part-line-start-2 : tie.Need-part-line-start-2 Inv-loop μ-loop
+part-line-start-2 c =
+    let m = told-whole _ _ (c .before .before .before .next-line .ensures) (c .before .from2 .given .1) in
+    search needs
+
+part-line-end-2 : tie.Need-part-line-end-2 Inv-loop μ-loop
+part-line-end-2 c =
+    let m = told-whole _ _ (c .before .before .before .next-line .ensures) (c .before .from2 .given .1) in
+    search needs
+
+add-t36 : tie.Need-add-t36 Inv-loop μ-loop
+add-t36 c =
+    let i = c .before .before .before .before .before .loop .inv in
+    let f = c .before .before .before .before .before .before .before .before .before .before .before .before .before .before .before .before .before .pre .0 in
+    search needs
+
+step-requires : tie.Need-step-requires Inv-loop μ-loop
+step-requires c κs =
+    let i = c .before .before .before .before .before .before .before .before .before .before .before .before .before .before .before .loop .inv in
+    let s = c .before .before .before .before .before .before .before .before .before .before .before .before .before .before .before .before .before .before .before .before .before .before .before .before .before .before .before in
+    (long-as (i .alike) (s .pre .1 .0), (i .indexed, (i .room, omega arith)))
+
+add-t58 : tie.Need-add-t58 Inv-loop μ-loop
+add-t58 c =
+    let i = c .before .before .before .before .before .before .before .before .before .before .before .before .before .before .before .before .before .before .before .before .before .before .before .before .before .before .before .before .before .before .before .before .before .before .before .before .before .loop .inv in
+    let f = c .before .before .before .before .before .before .before .before .before .before .before .before .before .before .before .before .before .before .before .before .before .before .before .before .before .before .before .before .before .before .before .before .before .before .before .before .before .before .before .before .before .before .before .before .before .before .before .before .before .pre .0 in
+    omega (arith, i .within, i .small, f)
+
+same-length-19 : tie.Need-same-length-19 Inv-loop μ-loop
+same-length-19 c =
+    let r = c .before .before .before .before .before .before .before .before .before .before .before .before .before .before .before .before .before .before .before .before .before .step in
+    r .kept .1 .1 .1 .1 .0 ∙ c .before .before .before .before .before .before .before .before .before .before .before .before .before .before .before .before .before .before .before .before .before .before .before .before .before .before .before .before .before .before .before .before .before .before .before .before .before .loop .inv .alike .starts
+
+same-length-20 : tie.Need-same-length-20 Inv-loop μ-loop
+same-length-20 c =
+    let r = c .before .before .before .before .before .before .before .before .before .before .before .before .before .before .before .before .before .before .before .before .before .step in
+    r .kept .1 .1 .1 .1 .1 .0 ∙ c .before .before .before .before .before .before .before .before .before .before .before .before .before .before .before .before .before .before .before .before .before .before .before .before .before .before .before .before .before .before .before .before .before .before .before .before .before .loop .inv .alike .points
+
+same-length-21 : tie.Need-same-length-21 Inv-loop μ-loop
+same-length-21 c =
+    let r = c .before .before .before .before .before .before .before .before .before .before .before .before .before .before .before .before .before .before .before .before .before .step in
+    r .kept .1 .1 .1 .1 .1 .1 .0 ∙ c .before .before .before .before .before .before .before .before .before .before .before .before .before .before .before .before .before .before .before .before .before .before .before .before .before .before .before .before .before .before .before .before .before .before .before .before .before .loop .inv .alike .ranks
+
+same-length-22 : tie.Need-same-length-22 Inv-loop μ-loop
+same-length-22 c =
+    let r = c .before .before .before .before .before .before .before .before .before .before .before .before .before .before .before .before .before .before .before .before .before .step in
+    r .kept .1 .1 .1 .1 .1 .1 .1 .0 ∙ c .before .before .before .before .before .before .before .before .before .before .before .before .before .before .before .before .before .before .before .before .before .before .before .before .before .before .before .before .before .before .before .before .before .before .before .before .before .loop .inv .alike .kept
+
+same-length-23 : tie.Need-same-length-23 Inv-loop μ-loop
+same-length-23 c =
+    let r = c .before .before .before .before .before .before .before .before .before .before .before .before .before .before .before .before .before .before .before .before .before .step in
+    r .kept .1 .1 .1 .1 .1 .1 .1 .1 .0 ∙ c .before .before .before .before .before .before .before .before .before .before .before .before .before .before .before .before .before .before .before .before .before .before .before .before .before .before .before .before .before .before .before .before .before .before .before .before .before .loop .inv .alike .opponents
+
+same-length-24 : tie.Need-same-length-24 Inv-loop μ-loop
+same-length-24 c =
+    let r = c .before .before .before .before .before .before .before .before .before .before .before .before .before .before .before .before .before .before .before .before .before .step in
+    r .kept .1 .1 .1 .1 .1 .1 .1 .1 .1 .0 ∙ c .before .before .before .before .before .before .before .before .before .before .before .before .before .before .before .before .before .before .before .before .before .before .before .before .before .before .before .before .before .before .before .before .before .before .before .before .before .loop .inv .alike .colours
+
+same-length-25 : tie.Need-same-length-25 Inv-loop μ-loop
+same-length-25 c =
+    let r = c .before .before .before .before .before .before .before .before .before .before .before .before .before .before .before .before .before .before .before .before .before .step in
+    r .kept .1 .1 .1 .1 .1 .1 .1 .1 .1 .1 .0 ∙ c .before .before .before .before .before .before .before .before .before .before .before .before .before .before .before .before .before .before .before .before .before .before .before .before .before .before .before .before .before .before .before .before .before .before .before .before .before .loop .inv .alike .results
+
+same-length-26 : tie.Need-same-length-26 Inv-loop μ-loop
+same-length-26 c =
+    let r = c .before .before .before .before .before .before .before .before .before .before .before .before .before .before .before .before .before .before .before .before .before .step in
+    r .kept .1 .1 .1 .1 .1 .1 .1 .1 .1 .1 .1 .0 ∙ c .before .before .before .before .before .before .before .before .before .before .before .before .before .before .before .before .before .before .before .before .before .before .before .before .before .before .before .before .before .before .before .before .before .before .before .before .before .loop .inv .alike .text
+
+same-length-27 : tie.Need-same-length-27 Inv-loop μ-loop
+same-length-27 c =
+    let r = c .before .before .before .before .before .before .before .before .before .before .before .before .before .before .before .before .before .before .before .before .before .step in
+    r .kept .1 .1 .1 .1 .1 .1 .1 .1 .1 .1 .1 .1 .0 ∙ c .before .before .before .before .before .before .before .before .before .before .before .before .before .before .before .before .before .before .before .before .before .before .before .before .before .before .before .before .before .before .before .before .before .before .before .before .before .loop .inv .alike .lines
+
+returns-3 : tie.Need-returns-3 Inv-loop μ-loop
+returns-3 c =
+    let s = c .before .before .before .before .before .before .before .before .before .before .before .before .before .before .before .before .before .before .before .before .before .before .before .before .before .before .before .before .before .before .before .before .before .before .before .before .before .before .before .before .before .before .before .before .before .before .before .before .before in
+    let l = c .before .before .before .before .before .before .before .before .before .before .before .before .before .before .before .before .before .before .before .before .before .before .before .before .before .before .before .before .before .before .before .before .before .before .before .before .before .loop in
+    let m = told-whole _ _ (c .before .before .before .before .before .before .before .before .before .before .before .before .before .before .before .before .before .before .before .before .before .before .before .before .before .before .before .before .before .before .before .before .before .before .before .before .next-line .ensures) (c .before .before .before .before .before .before .before .before .before .before .before .before .before .before .before .before .before .before .before .before .before .before .before .before .before .before .before .before .before .before .before .before .before .before .from2 .given .1) in
+    let r = c .before .before .before .before .before .before .before .before .before .before .before .before .before .before .before .before .before .before .before .before .before .step in
+    (going-stop (l .inv) m (r .result) _ (r .ensures .0) (c .if1 .taken), r .ensures .1, r .ensures .2)
+
+add-ln : tie.Need-add-ln Inv-loop μ-loop
+add-ln c =
+    let i = c .before .before .before .before .before .before .before .before .before .before .before .before .before .before .before .before .before .before .before .before .before .before .before .before .before .before .before .before .before .before .before .before .before .before .before .before .before .loop .inv in
+    let f = c .before .before .before .before .before .before .before .before .before .before .before .before .before .before .before .before .before .before .before .before .before .before .before .before .before .before .before .before .before .before .before .before .before .before .before .before .before .before .before .before .before .before .before .before .before .before .before .before .before .pre .0 in
+    omega (arith, i .within, i .small, f)
+
+loop-less : tie.Need-loop-less Inv-loop μ-loop
+loop-less c =
+    let s = c .before .before .before .before .before .before .before .before .before .before .before .before .before .before .before .before .before .before .before .before .before .before .before .before .before .before .before .before .before .before .before .before .before .before .before .before .before .before .before .before .before .before .before .before .before .before .before .before .before in
+    let l = c .before .before .before .before .before .before .before .before .before .before .before .before .before .before .before .before .before .before .before .before .before .before .before .before .before .before .before .before .before .before .before .before .before .before .before .before .before .loop in
+    let m = told-whole _ _ (c .before .before .before .before .before .before .before .before .before .before .before .before .before .before .before .before .before .before .before .before .before .before .before .before .before .before .before .before .before .before .before .before .before .before .before .before .next-line .ensures) (c .before .before .before .before .before .before .before .before .before .before .before .before .before .before .before .before .before .before .before .before .before .before .before .before .before .before .before .before .before .before .before .before .before .before .from2 .given .1) in
+    let r = c .before .before .before .before .before .before .before .before .before .before .before .before .before .before .before .before .before .before .before .before .before .step in
+    let p = m .past in
+    let q = m .forward in
+    let w = m .within in
+    omega arith
+
+loop-again : tie.Need-loop-again Inv-loop μ-loop
+loop-again c =
+    let s = c .before .before .before .before .before .before .before .before .before .before .before .before .before .before .before .before .before .before .before .before .before .before .before .before .before .before .before .before .before .before .before .before .before .before .before .before .before .before .before .before .before .before .before .before .before .before .before .before .before in
+    let l = c .before .before .before .before .before .before .before .before .before .before .before .before .before .before .before .before .before .before .before .before .before .before .before .before .before .before .before .before .before .before .before .before .before .before .before .before .before .loop in
+    let m = told-whole _ _ (c .before .before .before .before .before .before .before .before .before .before .before .before .before .before .before .before .before .before .before .before .before .before .before .before .before .before .before .before .before .before .before .before .before .before .before .before .next-line .ensures) (c .before .before .before .before .before .before .before .before .before .before .before .before .before .before .before .before .before .before .before .before .before .before .before .before .before .before .before .before .before .before .before .before .before .before .from2 .given .1) in
+    let r = c .before .before .before .before .before .before .before .before .before .before .before .before .before .before .before .before .before .before .before .before .before .step in
+    going-next (l .inv) m (r .result) _ (r .ensures .0) (c .if1 .left) (record { starts = r .kept .1 .1 .1 .1 .0; points = r .kept .1 .1 .1 .1 .1 .0; ranks = r .kept .1 .1 .1 .1 .1 .1 .0; kept = r .kept .1 .1 .1 .1 .1 .1 .1 .0; opponents = r .kept .1 .1 .1 .1 .1 .1 .1 .1 .0; colours = r .kept .1 .1 .1 .1 .1 .1 .1 .1 .1 .0; results = r .kept .1 .1 .1 .1 .1 .1 .1 .1 .1 .1 .0; text = r .kept .1 .1 .1 .1 .1 .1 .1 .1 .1 .1 .1 .0; lines = r .kept .1 .1 .1 .1 .1 .1 .1 .1 .1 .1 .1 .1 .0 }) (r .ensures .1) (r .ensures .2)
+
+pub run-spec : {M : Type 1} → statement M
+run-spec =
+    tie.close
+    (tie.spec
+    Inv-loop
+    μ-loop
+    new-requires
+    loop-holds
+    next-line-requires
+    enum-told
+    same-length
+    same-length-2
+    same-length-3
+    same-length-4
+    same-length-5
+    same-length-6
+    same-length-7
+    same-length-8
+    same-length-9
+    returns
+    enum-known-from
+    sub-line
+    part-line-start
+    part-line-end
+    broken-fault-requires
+    add-t31
+    same-length-10
+    same-length-11
+    same-length-12
+    same-length-13
+    same-length-14
+    same-length-15
+    same-length-16
+    same-length-17
+    same-length-18
+    returns-2
+    enum-known-from-2
+    sub-line-2
+    part-line-start-2
+    part-line-end-2
+    add-t36
+    step-requires
+    add-t58
+    same-length-19
+    same-length-20
+    same-length-21
+    same-length-22
+    same-length-23
+    same-length-24
+    same-length-25
+    same-length-26
+    same-length-27
+    returns-3
+    add-ln
+    loop-less
+    loop-again)
