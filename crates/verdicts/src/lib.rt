@@ -1,0 +1,105 @@
+// What the checks found, as refusals: number, line and round, the line read from the lent list. Promised: each answers a part of join's verdict.
+ghost use mathlib.Core.Path.{_≡_};
+ghost use mathlib.Core.Bool.{true};
+ghost use mathlib.Core.Option.{Option, none};
+ghost use Prim.Native.Nat.{ℕ, _+_, _*_, _≤_};
+ghost use lib.ListN.{length, getD};
+ghost use Rattle.kit.specs.Decides.{to};
+ghost use Rattle.law.specs.Sizes.{mostPlayers, mostRounds, mostAccelerations};
+ghost use Rattle.law.specs.Tables.{entryCells, lineCells};
+ghost use Rattle.law.specs.Refusals.{refusal, fileFaultNumber, past-142, shared, wrong-sum};
+ghost use Rattle.join.specs.Grid.{firstFrom};
+ghost use Rattle.join.specs.Check.{pastCell, sharedRecord, wrongSum, atPlayer};
+ghost use Rattle.checks.specs.Found.{asFound};
+ghost use Rattle.checks.specs.Results.{areSmall};
+ghost use Rattle.verdicts.specs.Verdict.{asVerdict, FoundUnder};
+use checks::Found;
+use checks::MOST_ACCELERATIONS;
+use types::Acceleration;
+use types::LineNumber;
+use types::Place;
+
+// The line numbers of the acceleration records stand after those of the players.
+const PLAYERS: usize = 200;
+
+// A refusal by its number, line and round; zeros where there is none.
+pub struct Verdict {
+    pub number: u32,
+    pub line: LineNumber,
+    pub round: u32,
+}
+
+fn nothing() -> Verdict
+    ensures { λ r. ⌜ r ≡ asVerdict none ⌝ }
+{
+    Verdict {
+        number: 0,
+        line: LineNumber(0),
+        round: 0,
+    }
+}
+
+// The refusal of a turn: its player's line, and its round.
+pub fn at_turn(number: u32, lines: &[u32], found: Found) -> Verdict
+    requires { ⌜ (lineCells ≤ length (now lines)) × FoundUnder found entryCells ⌝ }
+    ensures { λ r. ⌜ ((o : Option ℕ) → found ≡ asFound o → r ≡ asVerdict (to (atPlayer number (now (lines .entry))) o)) ⌝ }
+{
+    let Found::At(k) = found else {
+        return nothing();
+    };
+    let place = checks::place_at(k);
+    let round = checks::round_at(k);
+    let i = tables::own_cell(place);
+    Verdict {
+        number,
+        line: LineNumber(lines[i]),
+        round,
+    }
+}
+
+// 11: a cell past the rounds that there are.
+pub fn past(colours: &[u8], lines: &[u32], n: usize, rounds: u32) -> Verdict
+    requires { ⌜ (n ≤ mostPlayers) × (entryCells ≤ length (now colours)) × (lineCells ≤ length (now lines)) ⌝ }
+    ensures { λ r. ⌜ r ≡ asVerdict (to (atPlayer (fileFaultNumber past-142) (now (lines .entry))) (firstFrom (pastCell rounds (now (colours .entry))) 0 (n * mostRounds))) ⌝ }
+{
+    at_turn(11, lines, checks::first_past(colours, n, rounds))
+}
+
+// 17: a record that shares with an earlier one, by the record's line.
+pub fn sharing(records: [Acceleration; MOST_ACCELERATIONS], n: usize, lines: &[u32]) -> Verdict
+    requires { ⌜ (n ≤ mostAccelerations) × (lineCells ≤ length (now lines)) ⌝ }
+    ensures { λ r. ⌜ r ≡ asVerdict (to (λ j. refusal (fileFaultNumber shared) (getD (now (lines .entry)) (mostPlayers + j) 0) 0) (firstFrom (sharedRecord records) 0 n)) ⌝ }
+{
+    let Found::At(j) = checks::first_shared(records, n) else {
+        return nothing();
+    };
+    Verdict {
+        number: 17,
+        line: LineNumber(lines[PLAYERS + j]),
+        round: 0,
+    }
+}
+
+// 16: points that are not the sum, by the player's line.
+pub fn wrong_points(
+    points: &[u32],
+    results: &[u8],
+    values: [u32; 6],
+    lines: &[u32],
+    n: usize,
+    rounds: u32,
+) -> Verdict
+    requires { ⌜ (n ≤ mostPlayers) × (rounds ≤ mostRounds) × (mostPlayers ≤ length (now points)) × (entryCells ≤ length (now results)) × (areSmall values ≡ true) ⌝ }
+    requires { ⌜ lineCells ≤ length (now lines) ⌝ }
+    ensures { λ r. ⌜ r ≡ asVerdict (to (λ p. refusal (fileFaultNumber wrong-sum) (getD (now (lines .entry)) p 0) 0) (firstFrom (wrongSum values (now (points .entry)) (now (results .entry)) rounds) 0 n)) ⌝ }
+{
+    let Found::At(p) = checks::first_wrong_sum(points, results, values, n, rounds) else {
+        return nothing();
+    };
+    let i = tables::own_cell(Place(p as u32));
+    Verdict {
+        number: 16,
+        line: LineNumber(lines[i]),
+        round: 0,
+    }
+}
