@@ -2,11 +2,17 @@
 use mathlib.Core.Path.{_≡_, refl, sym, ap, ap₂, _∙_}
 use mathlib.Core.Option.{Option, none, some}
 use mathlib.Core.List.{List}
-use Prim.Native.Nat.{ℕ}
+use Prim.Native.Nat.{ℕ, _*_}
 use lib.ListN.{getD}
-use Rattle.kit.specs.Decides.{to}
-use Rattle.law.specs.Refusals.{Refusal, refusal}
-use Rattle.join.specs.Check.{placeAt, roundAt, atPlayer}
+use Rattle.kit.specs.Decides.{to, orElse}
+use Rattle.law.specs.Sizes.{mostRounds}
+use Rattle.law.specs.Entries.{Law}
+use Rattle.law.specs.Refusals.{Refusal, refusal, fileFaultNumber, unlawful}
+use Rattle.join.specs.Grid.{firstFrom}
+use Rattle.join.specs.Store.{Nine}
+use Rattle.join.specs.Check.{placeAt, roundAt, brokenCell, atPlayer, brokenBy}
+use Rattle.checks.specs.Laws.{four}
+use Rattle.checks.proofs.Kept.{first-in}
 use Rattle.verdicts.specs.declared.Verdict.{Verdict}
 use Rattle.verdicts.specs.Verdict.{asVerdict}
 
@@ -19,3 +25,23 @@ one-found f o k q = sym (ap (λ (x : Option ℕ). asVerdict (to f x)) q)
 pub turn-found : (number : ℕ) (lines : List ℕ) (o : Option ℕ) (k : ℕ) → o ≡ some k → (i round : ℕ) → i ≡ placeAt k → round ≡ roundAt k
     → asVerdict (some (refusal number (getD lines i 0) round)) ≡ asVerdict (to (atPlayer number lines) o)
 turn-found number lines o k q i round p r = ap₂ (λ (a b : ℕ). asVerdict (some (refusal number (getD lines a 0) b))) p r ∙ one-found (atPlayer number lines) o k q
+
+-- ---- one check after another
+pub or-first : (o p : Option Refusal) {r : Verdict} → r ≡ asVerdict o → (r .number ≡ 0 → ⊥) → r ≡ asVerdict (orElse o p)
+or-first none p e q = absurd (q (ap (λ (v : Verdict). v .number) e))
+or-first (some x) p e q = e
+
+pub or-next : (f : ℕ → Refusal) (o : Option ℕ) (p : Option Refusal) {r v : Verdict} → ((k : ℕ) → f k .number ≡ 0 → ⊥) → r ≡ asVerdict (to f o) → r .number ≡ 0 → v ≡ asVerdict p
+    → v ≡ asVerdict (orElse (to f o) p)
+or-next f none p numbered e z h = h
+or-next f (some k) p numbered e z h = absurd (numbered k (sym (ap (λ (v : Verdict). v .number) e) ∙ z))
+
+-- ---- 12 to 15, from the four tables and the lines
+pub broken-in : (law : Law) (n R : ℕ) (y : Nine) {starts opponents colours results lines : List ℕ}
+    → y .starts ≡ starts → y .opponents ≡ opponents → y .colours ≡ colours → y .results ≡ results → y .lines ≡ lines → {r : Verdict}
+    → r ≡ asVerdict (to (atPlayer (fileFaultNumber (unlawful law)) lines) (firstFrom (brokenCell law n R (four starts opponents colours results)) 0 (n * mostRounds)))
+    → r ≡ asVerdict (brokenBy law n R y)
+broken-in law n R y e0 e1 e2 e3 e4 h =
+    h
+    ∙ rw (sym e0, sym e1, sym e2, sym e3, sym e4)
+    (ap (λ (o : Option ℕ). asVerdict (to (atPlayer (fileFaultNumber (unlawful law)) (y .lines)) o)) (first-in law n R y (n * mostRounds)))

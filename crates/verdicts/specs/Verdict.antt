@@ -2,7 +2,11 @@
 use mathlib.Core.Path.{_≡_}
 use mathlib.Core.Option.{Option, none, some}
 use Prim.Native.Nat.{ℕ, _<_}
+use Rattle.kit.specs.Decides.{orElse}
+use Rattle.law.specs.Entries.{bye-or-game, mutual-pairing, fitting-results, one-U}
 use Rattle.law.specs.Refusals.{Refusal}
+use Rattle.join.specs.Store.{Nine}
+use Rattle.join.specs.Check.{brokenBy}
 use Rattle.checks.specs.declared.Found.{Found}
 use Rattle.checks.specs.declared.Found.the-variants.{At}
 use Rattle.verdicts.specs.declared.Verdict.{Verdict}
@@ -10,6 +14,10 @@ use Rattle.verdicts.specs.declared.Verdict.{Verdict}
 abbrev pub asVerdict : Option Refusal → Verdict
 asVerdict none = record { number = 0; line = record { 0 = 0 }; round = 0 }
 asVerdict (some q) = record { number = q .number; line = record { 0 = q .line }; round = q .round }
+
+-- 12 to 15, in their order
+abbrev pub unlawfulIn : ℕ → ℕ → Nine → Option Refusal
+unlawfulIn n R y = orElse (brokenBy bye-or-game n R y) (orElse (brokenBy mutual-pairing n R y) (orElse (brokenBy fitting-results n R y) (brokenBy one-U n R y)))
 
 -- what was found is below n
 abbrev pub FoundUnder : Found → ℕ → Type 0

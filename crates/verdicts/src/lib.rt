@@ -9,12 +9,16 @@ ghost use Rattle.law.specs.Sizes.{mostPlayers, mostRounds, mostAccelerations};
 ghost use Rattle.law.specs.Tables.{entryCells, lineCells};
 ghost use Rattle.law.specs.Refusals.{refusal, fileFaultNumber, past-142, shared, wrong-sum};
 ghost use Rattle.join.specs.Grid.{firstFrom};
-ghost use Rattle.join.specs.Check.{pastCell, sharedRecord, wrongSum, atPlayer};
+ghost use Rattle.join.specs.Check.{pastCell, sharedRecord, wrongSum, brokenCell, atPlayer};
+ghost use Rattle.join.specs.Store.{Nine};
 ghost use Rattle.checks.specs.Found.{asFound};
 ghost use Rattle.checks.specs.Results.{areSmall};
-ghost use Rattle.verdicts.specs.Verdict.{asVerdict, FoundUnder};
+ghost use Rattle.checks.specs.Laws.{Long, Indexed, asLaw, four};
+ghost use Rattle.verdicts.specs.Verdict.{asVerdict, unlawfulIn, FoundUnder};
 use checks::Found;
+use checks::LawKind;
 use checks::MOST_ACCELERATIONS;
+use checks::START_CELLS;
 use types::Acceleration;
 use types::LineNumber;
 use types::Place;
@@ -102,4 +106,99 @@ pub fn wrong_points(
         line: LineNumber(lines[i]),
         round: 0,
     }
+}
+
+// The first turn whose entry breaks a law, refused by that law's number.
+pub fn broken(
+    kind: LawKind,
+    number: u32,
+    starts: &[u32],
+    opponents: &[u32],
+    colours: &[u8],
+    results: &[u8],
+    lines: &[u32],
+    index: &[u16; START_CELLS],
+    n: usize,
+    rounds: u32,
+) -> Verdict
+    requires { ⌜ Long (now starts) (now opponents) (now colours) (now results) × Indexed (now starts) n (now index) ⌝ }
+    requires { ⌜ lineCells ≤ length (now lines) ⌝ }
+    ensures { λ r. ⌜ r ≡ asVerdict (to (atPlayer number (now (lines .entry))) (firstFrom (brokenCell (asLaw kind) n rounds (four (now (starts .entry)) (now (opponents .entry)) (now (colours .entry)) (now (results .entry)))) 0 (n * mostRounds))) ⌝ }
+{
+    let found = checks::first_broken(kind, starts, opponents, colours, results, index, n, rounds);
+    at_turn(number, lines, found)
+}
+
+// 12 to 15, in their order.
+pub fn first_unlawful(
+    starts: &[u32],
+    opponents: &[u32],
+    colours: &[u8],
+    results: &[u8],
+    lines: &[u32],
+    index: &[u16; START_CELLS],
+    n: usize,
+    rounds: u32,
+) -> Verdict
+    requires { ⌜ Long (now starts) (now opponents) (now colours) (now results) × Indexed (now starts) n (now index) ⌝ }
+    requires { ⌜ lineCells ≤ length (now lines) ⌝ }
+    ensures { λ r. ⌜ ((y : Nine) → y .starts ≡ now (starts .entry) → y .opponents ≡ now (opponents .entry) → y .colours ≡ now (colours .entry) → y .results ≡ now (results .entry) → y .lines ≡ now (lines .entry) → r ≡ asVerdict (unlawfulIn n rounds y)) ⌝ }
+{
+    let game = broken(
+        LawKind::ByeOrGame,
+        12,
+        starts,
+        opponents,
+        colours,
+        results,
+        lines,
+        index,
+        n,
+        rounds,
+    );
+    if game.number != 0 {
+        return game;
+    }
+    let mutual = broken(
+        LawKind::Mutual,
+        13,
+        starts,
+        opponents,
+        colours,
+        results,
+        lines,
+        index,
+        n,
+        rounds,
+    );
+    if mutual.number != 0 {
+        return mutual;
+    }
+    let fitting = broken(
+        LawKind::Fitting,
+        14,
+        starts,
+        opponents,
+        colours,
+        results,
+        lines,
+        index,
+        n,
+        rounds,
+    );
+    if fitting.number != 0 {
+        return fitting;
+    }
+    broken(
+        LawKind::OneU,
+        15,
+        starts,
+        opponents,
+        colours,
+        results,
+        lines,
+        index,
+        n,
+        rounds,
+    )
 }
