@@ -2,3 +2,4 @@ pub mod Told
 pub mod Sound
 pub mod Room
 pub mod Going
+pub mod Judging

@@ -1,18 +1,23 @@
 // The reader: line by line into the tables, then the checks, then the answer. Promised: what the statement says of a reading.
 ghost use mathlib.Core.Path.{_≡_};
-ghost use mathlib.Core.Bool.{false};
+ghost use mathlib.Core.Bool.{true, false};
 ghost use Prim.Native.Nat.{ℕ, _+_, _≤_};
 ghost use lib.ListN.{length};
-ghost use Rattle.law.specs.Sizes.{mostFile};
+ghost use Rattle.law.specs.Sizes.{mostFile, mostPlayers, mostRounds};
 ghost use Rattle.law.specs.Lines.{End};
+ghost use Rattle.law.specs.Tables.{lineCells};
 ghost use Rattle.law.proofs.Cut.{cut};
 ghost use Rattle.join.specs.Run.{runAll};
-ghost use Rattle.join.specs.Store.{state, stepLine};
+ghost use Rattle.join.specs.Store.{Nine, state, stepLine};
+ghost use Rattle.join.specs.Check.{verdict};
 ghost use Rattle.join.specs.Kept.{Long};
 ghost use Rattle.tables.specs.Lent.{lent, before, after};
 ghost use Rattle.checks.specs.Laws.{Indexed};
+ghost use Rattle.checks.specs.Laws as laws;
+ghost use Rattle.checks.specs.Results.{areSmall};
+ghost use Rattle.verdicts.specs.Verdict.{asVerdict};
 ghost use Rattle.steps.specs.Counts.{asCount, went};
-ghost use Rattle.reader.specs.Lined.{lineOf, Small, ran, brokenFault};
+ghost use Rattle.reader.specs.Lined.{lineOf, Small, ran, brokenFault, isComplete, pastIn};
 use checks::START_CELLS;
 use lines::Cursor;
 use lines::Step;
@@ -20,6 +25,7 @@ use records::Kind;
 use steps::Counts;
 use steps::Stepped;
 use types::LineNumber;
+use verdicts::Verdict;
 
 // The longest line.
 const MOST_LINE: usize = 512;
@@ -177,4 +183,62 @@ fn run(
             }
         }
     }
+}
+
+// Whether there is neither a name nor a player missing.
+fn is_complete(c: Counts) -> bool
+    ensures { λ r. ⌜ r ≡ isComplete (asCount c) ⌝ }
+{
+    let seen = c.seen;
+    seen[0] & (0 < c.players)
+}
+
+// The first refusal of the whole file, after the closing pass. past: what 11 found before it.
+fn judge(
+    c: Counts,
+    rounds: u32,
+    past: Verdict,
+    index: &[u16; START_CELLS],
+    starts: &[u32],
+    points: &[u32],
+    opponents: &[u32],
+    colours: &[u8],
+    results: &[u8],
+    lines: &[u32],
+) -> Verdict
+    requires { ⌜ laws.Long (now starts) (now opponents) (now colours) (now results) × Indexed (now starts) (c .players) (now index) ⌝ }
+    requires { ⌜ (mostPlayers ≤ length (now points)) × (lineCells ≤ length (now lines)) × (rounds ≤ mostRounds) × (areSmall (c .values) ≡ true) × Small c ⌝ }
+    ensures { λ r. ⌜ ((x y : Nine) → y .starts ≡ now (starts .entry) → y .points ≡ now (points .entry) → y .opponents ≡ now (opponents .entry) → y .colours ≡ now (colours .entry) → y .results ≡ now (results .entry) → y .lines ≡ now (lines .entry) → x .lines ≡ now (lines .entry) → past ≡ asVerdict (pastIn (asCount c) rounds x) → r ≡ asVerdict (verdict (asCount c) rounds x y)) ⌝ }
+{
+    if !is_complete(c) {
+        return Verdict {
+            number: 10,
+            line: LineNumber(0),
+            round: 0,
+        };
+    }
+    if past.number != 0 {
+        return past;
+    }
+    let n = c.players;
+    let records = c.records;
+    let shared = verdicts::sharing(records, c.accelerations, lines);
+    if shared.number != 0 {
+        return shared;
+    }
+    let unlawful = verdicts::first_unlawful(
+        starts,
+        opponents,
+        colours,
+        results,
+        lines,
+        index,
+        n,
+        rounds,
+    );
+    if unlawful.number != 0 {
+        return unlawful;
+    }
+    let values = c.values;
+    verdicts::wrong_points(points, results, values, lines, n, rounds)
 }
