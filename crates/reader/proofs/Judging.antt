@@ -13,7 +13,7 @@ use Rattle.law.specs.Entries.{Law, bye-or-game, mutual-pairing, fitting-results
 use Rattle.law.specs.Refusals.{Refusal, refusal, fileFaultNumber, incomplete, past-142, shared, unlawful, wrong-sum}
 use Rattle.join.specs.Grid.{firstFrom}
 use Rattle.join.specs.Store.{Nine, Count}
-use Rattle.join.specs.Check.{pastCell, sharedRecord, wrongSum, brokenCell, atPlayer, brokenBy, verdict}
+use Rattle.join.specs.Check.{roundsSeen, roundsFound, pastCell, sharedRecord, wrongSum, brokenCell, atPlayer, brokenBy, verdict}
 use Rattle.verdicts.specs.declared.Verdict.{Verdict}
 use Rattle.verdicts.specs.Verdict.{asVerdict, unlawfulIn}
 use Rattle.verdicts.proofs.Parts.{or-first, or-next}
@@ -124,3 +124,17 @@ module _ (c : Count) (R : ℕ) (x y : Nine) where
             → {v : Verdict} → v ≡ asVerdict (sixteenBy points results last) → v ≡ asVerdict (verdict c R x y)
         judged-16 zu e0 e1 e2 h =
             after-17 (or-next-any (unlawfulIn (c .players) R y) sixteen (unlawful-numbered (c .players) R y) u-is zu (h ∙ rw (sym e0, sym e1, sym e2) refl))
+
+-- ---- the number of rounds
+pub rounds-stated : (c : Count) (colours : List ℕ) → c .stated ≡ true → c .rounds ≡ roundsFound c colours
+unfolding roundsFound
+rounds-stated c colours e = rw e refl
+
+pub rounds-not-stated : (c : Count) (colours : List ℕ) → c .stated ≡ false → {r : ℕ} → r ≡ roundsSeen colours (c .players) → r ≡ roundsFound c colours
+unfolding roundsFound
+rounds-not-stated c colours e h = rw e h
+
+-- ---- 11, before the closing pass
+pub past-in : (c : Count) (R : ℕ) (x : Nine) {colours lines : List ℕ} → x .colours ≡ colours → x .lines ≡ lines → {r : Verdict}
+    → r ≡ asVerdict (to (atPlayer (fileFaultNumber past-142) lines) (firstFrom (pastCell R colours) 0 (c .players * mostRounds))) → r ≡ asVerdict (pastIn c R x)
+past-in c R x e0 e1 h = h ∙ rw (sym e0, sym e1) refl

@@ -5,11 +5,11 @@ ghost use Prim.Native.Nat.{ℕ, _+_, _≤_};
 ghost use lib.ListN.{length};
 ghost use Rattle.law.specs.Sizes.{mostFile, mostPlayers, mostRounds};
 ghost use Rattle.law.specs.Lines.{End};
-ghost use Rattle.law.specs.Tables.{lineCells};
+ghost use Rattle.law.specs.Tables.{entryCells, lineCells};
 ghost use Rattle.law.proofs.Cut.{cut};
 ghost use Rattle.join.specs.Run.{runAll};
 ghost use Rattle.join.specs.Store.{Nine, state, stepLine};
-ghost use Rattle.join.specs.Check.{verdict};
+ghost use Rattle.join.specs.Check.{roundsFound, verdict};
 ghost use Rattle.join.specs.Kept.{Long};
 ghost use Rattle.tables.specs.Lent.{lent, before, after};
 ghost use Rattle.checks.specs.Laws.{Indexed};
@@ -17,7 +17,7 @@ ghost use Rattle.checks.specs.Laws as laws;
 ghost use Rattle.checks.specs.Results.{areSmall};
 ghost use Rattle.verdicts.specs.Verdict.{asVerdict};
 ghost use Rattle.steps.specs.Counts.{asCount, went};
-ghost use Rattle.reader.specs.Lined.{lineOf, Small, ran, brokenFault, isComplete, pastIn};
+ghost use Rattle.reader.specs.Lined.{lineOf, Small, ran, brokenFault, isComplete, pastIn, dash, zed, ClosedBy};
 use checks::START_CELLS;
 use lines::Cursor;
 use lines::Step;
@@ -241,4 +241,56 @@ fn judge(
     }
     let values = c.values;
     verdicts::wrong_points(points, results, values, lines, n, rounds)
+}
+
+// The number of rounds: what 142 says, or the highest round with an entry.
+fn rounds_of(c: Counts, colours: &[u8]) -> u32
+    requires { ⌜ (c .players ≤ mostPlayers) × (entryCells ≤ length (now colours)) ⌝ }
+    ensures { λ r. ⌜ r ≡ roundsFound (asCount c) (now (colours .entry)) ⌝ }
+{
+    if c.stated {
+        return c.rounds;
+    }
+    checks::rounds_seen(colours, c.players)
+}
+
+// The number of rounds, and the first refusal of the whole file.
+pub struct Finished {
+    pub rounds: u32,
+    pub verdict: Verdict,
+}
+
+// After the last line: the number of rounds, 11, the closing pass, and the other checks.
+fn finish(
+    c: Counts,
+    index: &[u16; START_CELLS],
+    starts: &[u32],
+    points: &[u32],
+    opponents: &[u32],
+    colours: &mut [u8],
+    results: &mut [u8],
+    lines: &[u32],
+) -> Finished
+    requires { ⌜ laws.Long (now starts) (now opponents) (now colours) (now results) × Indexed (now starts) (c .players) (now index) ⌝ }
+    requires { ⌜ (mostPlayers ≤ length (now points)) × (lineCells ≤ length (now lines)) × (roundsFound (asCount c) (now colours) ≤ mostRounds) × (areSmall (c .values) ≡ true) × Small c ⌝ }
+    ensures { λ r. ⌜ (r .rounds ≡ roundsFound (asCount c) (now (colours .entry))) × ClosedBy dash (c .players) (r .rounds) (now (colours .entry)) (now (colours .exit)) × ClosedBy zed (c .players) (r .rounds) (now (results .entry)) (now (results .exit)) × ((x y : Nine) → x .colours ≡ now (colours .entry) → x .lines ≡ now (lines .entry) → y .starts ≡ now (starts .entry) → y .points ≡ now (points .entry) → y .opponents ≡ now (opponents .entry) → y .colours ≡ now (colours .exit) → y .results ≡ now (results .exit) → y .lines ≡ now (lines .entry) → r .verdict ≡ asVerdict (verdict (asCount c) (r .rounds) x y)) ⌝ }
+{
+    let rounds = rounds_of(c, colours);
+    let n = c.players;
+    let past = verdicts::past(colours, lines, n, rounds);
+    checks::close(colours, n, rounds, b'-');
+    checks::close(results, n, rounds, b'Z');
+    let verdict = judge(
+        c,
+        rounds,
+        past,
+        index,
+        starts,
+        points,
+        opponents,
+        colours,
+        results,
+        lines,
+    );
+    Finished { rounds, verdict }
 }
