@@ -15,7 +15,7 @@ ghost use Rattle.law.specs.Accelerations as accelerations;
 ghost use Rattle.law.specs.Players.{byeResults, gameColours, gameResults};
 ghost use Rattle.law.specs.Entries as entries;
 ghost use Rattle.law.specs.Entries.{bye-or-game, mutual-pairing, fitting-results, one-U};
-ghost use Rattle.law.specs.Tables.{entryCells, cellOf};
+ghost use Rattle.law.specs.Tables.{entryCells};
 ghost use Rattle.join.specs.Grid.{firstFrom};
 ghost use Rattle.join.specs.Store.{placeOf};
 ghost use Rattle.join.specs.Check.{placeAt, roundAt, isSeen, roundSeen, roundsSeen, pastCell, sharedRecord, closing, isGameBy, hasUAt, keepsCell, brokenCell, worthBy, sumAt, wrongSum};

@@ -5,7 +5,7 @@ ghost use mathlib.Core.Bool.{false};
 ghost use mathlib.Core.Option.{some};
 ghost use mathlib.Core.List.{List};
 ghost use Prim.Native.Nat.{ℕ, _+_, _<_, _≤_};
-ghost use lib.ListN.{length, getD};
+ghost use lib.ListN.{getD};
 ghost use Rattle.law.specs.Sizes.{mostPlayers, mostRounds};
 ghost use Rattle.law.specs.Players.{PlayerLine};
 ghost use Rattle.law.proofs.RecordsRead.{playerOf};

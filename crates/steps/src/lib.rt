@@ -1,7 +1,6 @@
 // What one line of the file does: its record is read, and stored in the lent tables and the counts beside them, or the line is refused by 3 to 9. Promised:
 // each step is join's, on every content of the tables.
 ghost use mathlib.Core.Path.{_≡_};
-ghost use mathlib.Core.List.{[], _∷_};
 ghost use Prim.Native.Nat.{ℕ, _+_, _≤_, _<_};
 ghost use lib.ListN.{length};
 ghost use Rattle.law.specs.Sizes.{mostLine, mostAccelerations, mostText};
@@ -93,7 +92,7 @@ fn place_in_2(b: u8) -> usize
     }
 }
 
-// The place of the code of a kept text line.
+// The same by its first two bytes.
 fn place_of_code(a: u8, b: u8) -> usize
     ensures { λ r. ⌜ r ≡ placeOfCode a b ⌝ }
 {
@@ -159,7 +158,7 @@ fn with_scoring(c: Counts, scoring: Scoring) -> Counts
     counts
 }
 
-// A line of kept text.
+// The place of the code of a kept text line.
 fn text_place(line: &[u8]) -> usize
     requires { ⌜ items.kindOf (now line) ≡ items.kept-text ⌝ }
     ensures { λ r. ⌜ (r ≡ codePlace (part codeField (now (line .entry))) 0 textCodes) × (r < 16) ⌝ }
@@ -169,6 +168,7 @@ fn text_place(line: &[u8]) -> usize
     place_of_code(a, b)
 }
 
+// A line of kept text.
 pub fn step_text(line: &[u8], c: Counts, text: &mut [u8]) -> Stepped
     requires { ⌜ (items.kindOf (now line) ≡ items.kept-text) × (length (now line) ≤ mostLine) × (c .text ≤ mostText) × (mostText ≤ length (now text)) ⌝ }
     ensures { λ r. ⌜ ((ln : ℕ) (t : Nine) → went ln r (withText t (now (text .exit))) ≡ stepText (textOf (now (line .entry))) (codePlace (part codeField (now (line .entry))) 0 textCodes) (state ln (asCount c) (withText t (now (text .entry))))) ⌝ }
