@@ -1,6 +1,6 @@
 -- The verdict, one check after another. Assumes nothing.
 use mathlib.Core.Path.{_≡_, refl, sym, ap, _∙_}
-use mathlib.Core.Bool.{true, false, cond}
+use mathlib.Core.Bool.{Bool, true, false, cond}
 use mathlib.Core.Option.{Option, none, some}
 use mathlib.Core.List.{List}
 use Prim.Native.Nat.{ℕ, _+_, _*_}
@@ -50,6 +50,24 @@ unlawful-numbered n R y =
     numbered-or (at bye-or-game y) (turns bye-or-game n R y) _ (λ k z. omega (arith, z))
     (numbered-or (at mutual-pairing y) (turns mutual-pairing n R y) _ (λ k z. omega (arith, z))
     (numbered-or (at fitting-results y) (turns fitting-results n R y) _ (λ k z. omega (arith, z)) (numbered-to (at one-U y) (turns one-U n R y) (λ k z. omega (arith, z)))))
+
+-- ---- the verdict's too
+numbered-cond : (b : Bool) (x : Refusal) (p : Option Refusal) → (x .number ≡ 0 → ⊥) → Numbered p → Numbered (orElse (cond b none (some x)) p)
+unfolding Numbered
+numbered-cond true x p own rest q e z = rest q e z
+numbered-cond false x p own rest q e z = let u : x ≡ q = cc in own (ap (λ (y : Refusal). y .number) u ∙ z)
+
+pub verdict-numbered : (c : Count) (R : ℕ) (x y : Nine) (q : Refusal) → verdict c R x y ≡ some q → q .number ≡ 0 → ⊥
+unfolding verdict Numbered
+verdict-numbered c R x y =
+    numbered-cond (isComplete c) (refusal (fileFaultNumber incomplete) 0 0) _ (λ z. omega (arith, z))
+    (numbered-or (atPlayer (fileFaultNumber past-142) (x .lines)) (firstFrom (pastCell R (x .colours)) 0 (c .players * mostRounds)) _ (λ k z. omega (arith, z))
+    (numbered-or (λ j. refusal (fileFaultNumber shared) (getD (x .lines) (mostPlayers + j) 0) 0) (firstFrom (sharedRecord (c .records)) 0 (c .accelerations)) _ (λ k z. omega (arith, z))
+    (numbered-or (at bye-or-game y) (turns bye-or-game (c .players) R y) _ (λ k z. omega (arith, z))
+    (numbered-or (at mutual-pairing y) (turns mutual-pairing (c .players) R y) _ (λ k z. omega (arith, z))
+    (numbered-or (at fitting-results y) (turns fitting-results (c .players) R y) _ (λ k z. omega (arith, z))
+    (numbered-or (at one-U y) (turns one-U (c .players) R y) _ (λ k z. omega (arith, z))
+    (numbered-to (λ p. refusal (fileFaultNumber wrong-sum) (getD (y .lines) p 0) 0) (firstFrom (wrongSum (c .values) (y .points) (y .results) R) 0 (c .players)) (λ k z. omega (arith, z)))))))))
 
 or-next-any : (o p : Option Refusal) {r v : Verdict} → Numbered o → r ≡ asVerdict o → r .number ≡ 0 → v ≡ asVerdict p → v ≡ asVerdict (orElse o p)
 unfolding Numbered

@@ -3,3 +3,5 @@ pub mod Sound
 pub mod Room
 pub mod Going
 pub mod Judging
+pub mod Leaves
+pub mod Core

@@ -1,0 +1,12 @@
+-- `reader::refused` meets its contract. Assumes nothing.
+use mathlib.Core.Path.{refl}
+use Rattle.law.specs.Calls.{refusedAnswer}
+use Rattle.reader.proofs.refused.Statement.{statement}
+use Rattle.reader.proofs.refused.Tie as tie
+
+returns : tie.Need-returns
+unfolding refusedAnswer
+returns c = refl
+
+pub refused-spec : {M : Type 1} → statement M
+refused-spec = tie.close (tie.spec returns)
