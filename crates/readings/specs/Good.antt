@@ -1,13 +1,12 @@
 -- What the test behind 18 looks at: the answer, used cells and unused ones, each as the tables hold it. Means: no part of the statement.
 use mathlib.Core.Path.{_≡_}
-use mathlib.Core.Bool.{Bool, true, _||_}
+use mathlib.Core.Bool.{true, _||_}
 use mathlib.Core.Option.{none}
 use mathlib.Core.List.{List, []}
 use Prim.Native.Nat.{ℕ, _*_, _≤_, _<_}
 use lib.Dec.{eqb, leb}
 use lib.ListN.{length, getD, take, drop}
 use Rattle.kit.specs.Lists.{all, among}
-use Rattle.types.specs.declared.Acceleration.{Acceleration}
 use Rattle.types.specs.declared.Answer.{Answer}
 use Rattle.law.specs.Sizes.{mostPlayers, mostRounds, mostAccelerations, mostText, mostPoints, isStart, isRank}
 use Rattle.law.specs.Lines.{allowed}
