@@ -4,3 +4,4 @@ pub mod HeldPlayers
 pub mod HeldLawful
 pub mod HasGood
 pub mod Whole
+pub mod Answers
