@@ -459,7 +459,8 @@ pub fn read_core(
 ) -> CoreAnswer
     ensures { λ r. ⌜ CoreReads (now (file .entry)) (before starts points ranks kept opponents colours results text lines) accelerations r (after starts points ranks kept opponents colours results text lines) ⌝ }
 {
-    if !tables::enough(
+    let numbered = tables::enough_lines(lines.len());
+    let long = tables::enough(
         starts.len(),
         points.len(),
         ranks.len(),
@@ -469,8 +470,8 @@ pub fn read_core(
         results.len(),
         text.len(),
         accelerations,
-        lines.len(),
-    ) {
+    );
+    if !(numbered & long) {
         return refused(1, LineNumber(0), 0, 0);
     }
     tables::clear(

@@ -3,6 +3,7 @@
 ghost use mathlib.Core.Path.{_≡_};
 ghost use mathlib.Core.List.{[], _∷_};
 ghost use Prim.Native.Nat.{_+_, _*_, _≤_, _<_};
+ghost use lib.Dec.{leb};
 ghost use lib.ListN.{length, set, take};
 ghost use lib.Seq.{paste};
 ghost use Rattle.law.specs.Sizes.{mostPlayers, mostRounds, mostAccelerations, mostText};
@@ -35,7 +36,7 @@ const LINES: usize = PLAYERS + ACCELERATIONS;
 
 const CR: u8 = 13;
 
-// Whether tables of these lengths are long enough.
+// Whether tables of these lengths are long enough: those that every call is lent.
 pub fn enough(
     starts: usize,
     points: usize,
@@ -46,12 +47,10 @@ pub fn enough(
     results: usize,
     text: usize,
     accelerations: usize,
-    lines: usize,
 ) -> bool
-    ensures { λ r. ⌜ r ≡ areLong ((lineCells, lines) ∷ (mostPlayers, starts) ∷ (mostPlayers, points) ∷ (mostPlayers, ranks) ∷ (keptCells, kept) ∷ (entryCells, opponents) ∷ (entryCells, colours) ∷ (entryCells, results) ∷ (mostText, text) ∷ (mostAccelerations, accelerations) ∷ []) ⌝ }
+    ensures { λ r. ⌜ r ≡ areLong ((mostPlayers, starts) ∷ (mostPlayers, points) ∷ (mostPlayers, ranks) ∷ (keptCells, kept) ∷ (entryCells, opponents) ∷ (entryCells, colours) ∷ (entryCells, results) ∷ (mostText, text) ∷ (mostAccelerations, accelerations) ∷ []) ⌝ }
 {
-    (LINES <= lines)
-        & (PLAYERS <= starts)
+    (PLAYERS <= starts)
         & (PLAYERS <= points)
         & (PLAYERS <= ranks)
         & (KEPT <= kept)
@@ -60,6 +59,13 @@ pub fn enough(
         & (ENTRIES <= results)
         & (TEXT <= text)
         & (ACCELERATIONS <= accelerations)
+}
+
+// The same of the line numbers, which the reader alone is lent.
+pub fn enough_lines(lines: usize) -> bool
+    ensures { λ r. ⌜ r ≡ leb lineCells lines ⌝ }
+{
+    LINES <= lines
 }
 
 // Zero in every listed cell.
