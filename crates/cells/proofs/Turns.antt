@@ -1,14 +1,14 @@
 -- The loops that write a table, for cells of any type: a fill from the front, and a copy from a place on. Of each: how it begins, one turn, how it ends.
 -- Assumes nothing.
-use mathlib.Core.Path.{_≡_, refl, _∙_}
+use mathlib.Core.Path.{_≡_, refl, sym, _∙_}
 use mathlib.Core.List.{List}
 use Prim.Native.Nat.{ℕ, _+_, _≤_, _<_}
 use native.Mathlib.Decide.{ℕ-discrete}
 use native.Mathlib.Nat.{le-antisymm}
 use native.Mathlib.Numerals.{add-one}
 use native.Mathlib.Omega.{arith}
-use lib.ListN.{length, getD, set, length-set}
-use lib.Seq.{getD-set-same, getD-set-other, paste, paste-zero, paste-suc}
+use lib.ListN.{length, getD, take, drop, set, length-set, length-drop}
+use lib.Seq.{length-take-le, getD-set-same, getD-set-other, getD-take, getD-drop, ext-getD, paste, paste-zero, paste-suc}
 use Rattle.kit.specs.Table.{Holds}
 use Rattle.kit.proofs.Tables.{holds-same}
 
@@ -45,6 +45,15 @@ module _ {A : Type 0} {d : A} {f : ℕ → A} {n : ℕ} {b : List A} where
 
   pub filled-all : {x : List A} {i : ℕ} → Filled d f n b x i → n ≤ i → Holds d n f b x
   filled-all h l = rw (le-antisymm l (h .upto)) (h .holds)
+
+-- a list of n cells that hold those of t from cell at on is that part of t
+pub part-is : {A : Type 0} {d : A} (t : List A) (at n : ℕ) {b x : List A} → length b ≡ n → at + n ≤ length t → Holds d n (λ k. getD t (at + k) d) b x → x ≡ take n (drop at t)
+part-is {d = d} t at n {b} {x} e room h =
+    let l : length (take n (drop at t)) ≡ n = length-take-le n (drop at t) (omega (arith, length-drop at t)) in
+    ext-getD d x (take n (drop at t)) (h .long ∙ e ∙ sym l)
+    (λ i m.
+    let k : i < n = let z = h .long in omega arith in
+    h .cells i k ∙ sym (getD-take n (drop at t) i d k ∙ getD-drop at t i d))
 
 module _ {A : Type 0} {n : ℕ} {b : List A} {at : ℕ} {s : List A} where
   pub copied-none : Copied n b at s b 0

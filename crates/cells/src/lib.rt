@@ -1,8 +1,8 @@
-// Writing to one lent table: zero to its first cells, or some bytes from a cell on. Promised: what each cell that is written holds;
+// Writing to one lent table: zero to its first cells, or some bytes from a cell on; and reading bytes back. Promised: what each cell that is written holds;
 // that every other cell, and the table's length, are as before. Which cells those are is the caller's to say: no order of cells is known here.
 ghost use mathlib.Core.Path.{_≡_};
 ghost use Prim.Native.Nat.{_+_, _≤_};
-ghost use lib.ListN.{length};
+ghost use lib.ListN.{length, take, drop};
 ghost use lib.Seq.{paste};
 ghost use Rattle.kit.specs.Table.{Holds};
 ghost use Rattle.law.specs.Columns.{width};
@@ -56,4 +56,18 @@ pub fn put_kept(t: &mut [u8], at: usize, kept: [u8; KEPT_COLUMNS])
         t[at + i] = kept[i];
         i += 1;
     }
+}
+
+// The kept columns that stand from a cell on.
+pub fn get_kept(t: &[u8], at: usize) -> [u8; KEPT_COLUMNS]
+    requires { ⌜ at + width keptField ≤ length (now t) ⌝ }
+    ensures { λ r. ⌜ r ≡ take (width keptField) (drop at (now (t .entry))) ⌝ }
+{
+    let mut kept = [0; KEPT_COLUMNS];
+    let mut i = 0;
+    while i < KEPT_COLUMNS {
+        kept[i] = t[at + i];
+        i += 1;
+    }
+    kept
 }

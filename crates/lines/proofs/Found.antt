@@ -42,12 +42,12 @@ module _ (file : List ℕ) (at r : ℕ) (f : CRFrom file at r) where
   abbrev rest : List ℕ
   rest = drop (suc r) file
 
-  split : drop at file ≡ text ++ drop r file
+  pub split : drop at file ≡ text ++ drop r file
   split =
       let e : at + (r - at) ≡ r = let z = f .after in omega arith in
       sym (take-append-drop (r - at) (drop at file)) ∙ ap (λ (l : List ℕ). text ++ l) (drop-drop (r - at) at file ∙ ap (λ (k : ℕ). drop k file) e)
 
-  text-free : hasNoCR text ≡ true
+  pub text-free : hasNoCR text ≡ true
   text-free =
       let a = f .after in
       let w = f .within in

@@ -33,7 +33,7 @@ pub enum Step {
 }
 
 // The place of the first CR from a place on, or the file's length.
-fn cr_from(file: &[u8], at: usize) -> usize
+pub fn cr_from(file: &[u8], at: usize) -> usize
     requires { ⌜ at ≤ length (now file) ⌝ }
     ensures { λ r. ⌜ CRFrom (now (file .entry)) at r ⌝ }
 {

@@ -31,11 +31,11 @@ ghost use Rattle.records.specs.Records.{asKind, asText, asRounds, asInit
 
 const MOST_ROUNDS: u32 = 20;
 
-const MOST_POINTS: u32 = 999;
+pub const MOST_POINTS: u32 = 999;
 
-const MOST_START: u32 = 9999;
+pub const MOST_START: u32 = 9999;
 
-const MOST_RANK: u32 = 9999;
+pub const MOST_RANK: u32 = 9999;
 
 // What a line is, by its code.
 pub enum Kind {

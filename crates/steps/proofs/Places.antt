@@ -43,7 +43,7 @@ isText 250-record = false
 isText 001-record = false
 isText unlisted = false
 
-is-text : (row : List ℕ) → kindOf row ≡ kept-text → isOneOf (part codeField row) textCodes ≡ true
+pub is-text : (row : List ℕ) → kindOf row ≡ kept-text → isOneOf (part codeField row) textCodes ≡ true
 is-text row e =
     let a : List ℕ = part codeField row in
     go (isPassed row) (isOneOf a textCodes) (same a roundsCode) (same a colourCode) (same a scoringCode) (same a accelerationCode) (same a playerCode)

@@ -28,7 +28,7 @@ const TEXT: usize = 2048;
 // How many codes there are of kept text, and the place of the one that may stand more than once.
 pub const TEXT_CODES: usize = 16;
 
-const REPEATED: usize = 9;
+pub const REPEATED: usize = 9;
 
 // Kept beside the tables: how many players, acceleration records and bytes of text there are, the records, which text codes stood, and what 142, 152 and
 // 162 said.
@@ -159,7 +159,7 @@ fn with_scoring(c: Counts, scoring: Scoring) -> Counts
 }
 
 // The place of the code of a kept text line.
-fn text_place(line: &[u8]) -> usize
+pub fn text_place(line: &[u8]) -> usize
     requires { ⌜ items.kindOf (now line) ≡ items.kept-text ⌝ }
     ensures { λ r. ⌜ (r ≡ codePlace (part codeField (now (line .entry))) 0 textCodes) × (r < 16) ⌝ }
 {

@@ -4,7 +4,7 @@ ghost use mathlib.Core.Path.{_≡_};
 ghost use mathlib.Core.List.{[], _∷_};
 ghost use Prim.Native.Nat.{_+_, _*_, _≤_, _<_};
 ghost use lib.Dec.{leb};
-ghost use lib.ListN.{length, set, take};
+ghost use lib.ListN.{length, set, take, drop};
 ghost use lib.Seq.{paste};
 ghost use Rattle.law.specs.Sizes.{mostPlayers, mostRounds, mostAccelerations, mostText};
 ghost use Rattle.law.specs.Columns.{width};
@@ -24,7 +24,7 @@ pub const MOST_ROUNDS: usize = 20;
 // The listed sizes.
 const PLAYERS: usize = 200;
 
-const ENTRIES: usize = PLAYERS * MOST_ROUNDS;
+pub const ENTRIES: usize = PLAYERS * MOST_ROUNDS;
 
 const KEPT: usize = PLAYERS * KEPT_COLUMNS;
 
@@ -118,12 +118,19 @@ pub fn store_number(t: &mut [u32], place: Place, v: u32)
     t[place.0 as usize] = v;
 }
 
-// A player's kept columns.
+// A player's kept columns: stored, and read back.
 pub fn store_kept(t: &mut [u8], place: Place, kept: [u8; KEPT_COLUMNS])
     requires { ⌜ (place .0 < mostPlayers) × (keptCells ≤ length (now t)) ⌝ }
     ensures { λ _. ⌜ now (t .exit) ≡ paste (now (t .entry)) (place .0 * width keptField) kept (width keptField) ⌝ }
 {
     cells::put_kept(t, place.0 as usize * KEPT_COLUMNS, kept);
+}
+
+pub fn kept_at(t: &[u8], place: Place) -> [u8; KEPT_COLUMNS]
+    requires { ⌜ (place .0 < mostPlayers) × (keptCells ≤ length (now t)) ⌝ }
+    ensures { λ r. ⌜ r ≡ take (width keptField) (drop (place .0 * width keptField) (now (t .entry))) ⌝ }
+{
+    cells::get_kept(t, place.0 as usize * KEPT_COLUMNS)
 }
 
 // A player's opponents, round by round; and his colours, or results.

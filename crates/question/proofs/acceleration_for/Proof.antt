@@ -21,14 +21,14 @@ returns : tie.Need-returns
 returns c =
     let s = c .before .before .before in
     let a = s .args in
-    no-points (a .start .0) (a .round) (a .records) (a .n) (search needs) (told-nothing (firstFrom (coversAt (a .start .0) (a .round) (a .records)) 0 (a .n)) (c .before .before .first-covering .ensures) (c .enum-told .given .1))
+    no-points (a .start .0) (a .round) (a .t1) (a .n) (search needs) (told-nothing (firstFrom (coversAt (a .start .0) (a .round) (a .t1)) 0 (a .n)) (c .before .before .first-covering .ensures) (c .enum-told .given .1))
 
 mul-a : tie.Need-mul-a
 mul-a c =
     let s = c .before .before .before .before in
     let a = s .args in
     let few = s .pre in
-    let l = told-under (coversAt (a .start .0) (a .round) (a .records)) (a .n) (c .before .before .before .first-covering .ensures) (c .before .j .given .1) in
+    let l = told-under (coversAt (a .start .0) (a .round) (a .t1)) (a .n) (c .before .before .before .first-covering .ensures) (c .before .j .given .1) in
     search needs
 
 array-copy-out-a : tie.Need-array-copy-out-a
@@ -36,14 +36,14 @@ array-copy-out-a c =
     let s = c .before .before .before .before in
     let a = s .args in
     let few = s .pre in
-    let l = told-under (coversAt (a .start .0) (a .round) (a .records)) (a .n) (c .before .before .before .first-covering .ensures) (c .before .j .given .1) in
+    let l = told-under (coversAt (a .start .0) (a .round) (a .t1)) (a .n) (c .before .before .before .first-covering .ensures) (c .before .j .given .1) in
     search needs
 
 returns-2 : tie.Need-returns-2
 returns-2 c =
     let s = c .before .before .before .before .before in
     let a = s .args in
-    found-points (a .start .0) (a .round) (a .records) (a .n) (search needs) _ (told-at (firstFrom (coversAt (a .start .0) (a .round) (a .records)) 0 (a .n)) (c .before .before .before .before .first-covering .ensures) (c .before .before .j .given .1))
+    found-points (a .start .0) (a .round) (a .t1) (a .n) (search needs) _ (told-at (firstFrom (coversAt (a .start .0) (a .round) (a .t1)) 0 (a .n)) (c .before .before .before .before .first-covering .ensures) (c .before .before .j .given .1))
 
 pub acceleration-for-spec : {M : Type 1} → statement M
 acceleration-for-spec = tie.close (tie.spec first-covering-requires enum-known-j enum-told returns mul-a array-copy-out-a returns-2)

@@ -1,0 +1,216 @@
+// What the tables hold, asked cell by cell: that each used cell keeps to its rule, and that unused ones hold zero. Promised: true exactly where it is so, and
+// no table is changed. The loops over plain cells have no exit of their own, so that they can be compiled to take many cells at a time.
+ghost use mathlib.Core.Path.{_≡_};
+ghost use mathlib.Core.Bool.{true};
+ghost use mathlib.Core.Option.{none};
+ghost use Prim.Native.Nat.{ℕ, _≤_, _<_};
+ghost use lib.ListN.{length, getD};
+ghost use Rattle.kit.specs.Lists.{all, between};
+ghost use Rattle.law.specs.Sizes.{mostPlayers, mostRounds, mostAccelerations, mostPoints, isStart, isRank};
+ghost use Rattle.law.specs.Lines.{allowed};
+ghost use Rattle.law.specs.Accelerations.{isAcceleration};
+ghost use Rattle.law.specs.Players.{SpellsKept};
+ghost use Rattle.law.specs.Lawful.{noAcceleration};
+ghost use Rattle.law.specs.Tables.{keptCells, entryCells, cellOf};
+ghost use Rattle.join.specs.Store.{placeOf};
+ghost use Rattle.join.specs.Check.{placeAt, roundAt};
+ghost use Rattle.checks.specs.Index.{IndexOf};
+ghost use Rattle.checks.specs.Laws.{Indexed};
+ghost use Rattle.texts.specs.Kept.{Told};
+ghost use Rattle.readings.specs.Good.{Unused, UnusedEntries, keptAt};
+use cells::KEPT_COLUMNS;
+use checks::MOST_ACCELERATIONS;
+use checks::Placed;
+use checks::START_CELLS;
+use records::MOST_POINTS;
+use records::MOST_RANK;
+use records::MOST_START;
+use tables::ENTRIES;
+use types::Acceleration;
+use types::Place;
+use types::StartNumber;
+
+// Whether the numbers from one cell up to another lie between two others.
+fn numbers_within(t: &[u32], from: usize, to: usize, least: u32, most: u32) -> bool
+    requires { ⌜ to ≤ length (now t) ⌝ }
+    ensures { λ r. ⌜ Told ((i : ℕ) → from ≤ i → i < to → between least most (getD (now (t .entry)) i 0) ≡ true) r ⌝ }
+{
+    let mut good = true;
+    let mut i = from;
+    while i < to {
+        let x = t[i];
+        good = good & ((least <= x) & (x <= most));
+        i += 1;
+    }
+    good
+}
+
+// Whether the cells from one up to another hold zero.
+pub fn numbers_unused(t: &[u32], from: usize, to: usize) -> bool
+    requires { ⌜ to ≤ length (now t) ⌝ }
+    ensures { λ r. ⌜ Told (Unused 0 from to (now (t .entry))) r ⌝ }
+{
+    numbers_within(t, from, to, 0, 0)
+}
+
+pub fn bytes_unused(t: &[u8], from: usize, to: usize) -> bool
+    requires { ⌜ to ≤ length (now t) ⌝ }
+    ensures { λ r. ⌜ Told (Unused 0 from to (now (t .entry))) r ⌝ }
+{
+    let mut good = true;
+    let mut i = from;
+    while i < to {
+        good = good & (t[i] == 0);
+        i += 1;
+    }
+    good
+}
+
+// Whether the first n players have start numbers, points and ranks within their ranges.
+pub fn starts_are(starts: &[u32], n: usize) -> bool
+    requires { ⌜ n ≤ length (now starts) ⌝ }
+    ensures { λ r. ⌜ Told ((p : ℕ) → p < n → isStart (getD (now (starts .entry)) p 0) ≡ true) r ⌝ }
+{
+    numbers_within(starts, 0, n, 1, MOST_START)
+}
+
+pub fn points_are(points: &[u32], n: usize) -> bool
+    requires { ⌜ n ≤ length (now points) ⌝ }
+    ensures { λ r. ⌜ Told ((p : ℕ) → p < n → getD (now (points .entry)) p 0 ≤ mostPoints) r ⌝ }
+{
+    numbers_within(points, 0, n, 0, MOST_POINTS)
+}
+
+pub fn ranks_are(ranks: &[u32], n: usize) -> bool
+    requires { ⌜ n ≤ length (now ranks) ⌝ }
+    ensures { λ r. ⌜ Told ((p : ℕ) → p < n → isRank (getD (now (ranks .entry)) p 0) ≡ true) r ⌝ }
+{
+    numbers_within(ranks, 0, n, 1, MOST_RANK)
+}
+
+// The cell of a turn in an entry table, and whether it is one of the first players up to a round.
+fn turn_cell(k: usize) -> usize
+    requires { ⌜ k < entryCells ⌝ }
+    ensures { λ r. ⌜ (r ≡ cellOf (placeAt k) (roundAt k)) × (r < entryCells) ⌝ }
+{
+    tables::cell_of(checks::place_at(k), checks::round_at(k))
+}
+
+fn is_used(k: usize, players: usize, rounds: u32) -> bool
+    requires { ⌜ k < entryCells ⌝ }
+    ensures { λ r. ⌜ Told ((placeAt k < players) × (roundAt k ≤ rounds)) r ⌝ }
+{
+    let place = checks::place_at(k);
+    let round = checks::round_at(k);
+    let p = tables::own_cell(place);
+    (p < players) & (round <= rounds)
+}
+
+// Whether the cells of an entry table that no player has up to a round hold zero.
+pub fn entries_unused_numbers(t: &[u32], players: usize, rounds: u32) -> bool
+    requires { ⌜ (players ≤ mostPlayers) × (rounds ≤ mostRounds) × (entryCells ≤ length (now t)) ⌝ }
+    ensures { λ r. ⌜ Told (UnusedEntries players rounds (now (t .entry))) r ⌝ }
+{
+    let mut good = true;
+    let mut k = 0;
+    while k < ENTRIES {
+        let i = turn_cell(k);
+        let used = is_used(k, players, rounds);
+        good = good & (used | (t[i] == 0));
+        k += 1;
+    }
+    good
+}
+
+pub fn entries_unused_letters(t: &[u8], players: usize, rounds: u32) -> bool
+    requires { ⌜ (players ≤ mostPlayers) × (rounds ≤ mostRounds) × (entryCells ≤ length (now t)) ⌝ }
+    ensures { λ r. ⌜ Told (UnusedEntries players rounds (now (t .entry))) r ⌝ }
+{
+    let mut good = true;
+    let mut k = 0;
+    while k < ENTRIES {
+        let i = turn_cell(k);
+        let used = is_used(k, players, rounds);
+        good = good & (used | (t[i] == 0));
+        k += 1;
+    }
+    good
+}
+
+// Whether a record holds zero.
+fn is_no_acceleration(a: Acceleration) -> bool
+    ensures { λ r. ⌜ Told (a ≡ noAcceleration) r ⌝ }
+{
+    (a.points == 0)
+        & ((a.first_round == 0)
+            & ((a.last_round == 0) & ((a.first_start == 0) & (a.last_start == 0))))
+}
+
+// Whether the records from one on hold zero.
+pub fn records_unused(records: [Acceleration; MOST_ACCELERATIONS], from: usize) -> bool
+    ensures { λ r. ⌜ Told (Unused noAcceleration from mostAccelerations records) r ⌝ }
+{
+    let mut good = true;
+    let mut i = from;
+    while i < MOST_ACCELERATIONS {
+        good = good & is_no_acceleration(records[i]);
+        i += 1;
+    }
+    good
+}
+
+// Whether the first n records are 250 records.
+pub fn accelerations_are(records: [Acceleration; MOST_ACCELERATIONS], n: usize) -> bool
+    requires { ⌜ n ≤ mostAccelerations ⌝ }
+    ensures { λ r. ⌜ Told ((j : ℕ) → j < n → isAcceleration (getD records j noAcceleration) ≡ true) r ⌝ }
+{
+    let mut good = true;
+    let mut j = 0;
+    while j < n {
+        good = good & records::is_acceleration(records[j]);
+        j += 1;
+    }
+    good
+}
+
+// Whether columns are a player's kept ones.
+fn is_clean_kept(kept: [u8; KEPT_COLUMNS]) -> bool
+    ensures { λ r. ⌜ Told ((all allowed kept ≡ true) × SpellsKept kept) r ⌝ }
+{
+    let clean = lines::all_allowed(&kept);
+    clean & records::is_kept(kept)
+}
+
+// Whether the first n players have kept columns.
+pub fn kept_are(kept: &[u8], n: usize) -> bool
+    requires { ⌜ (n ≤ mostPlayers) × (keptCells ≤ length (now kept)) ⌝ }
+    ensures { λ r. ⌜ Told ((p : ℕ) → p < n → (all allowed (keptAt (now (kept .entry)) p) ≡ true) × SpellsKept (keptAt (now (kept .entry)) p)) r ⌝ }
+{
+    let mut good = true;
+    let mut p = 0;
+    while p < n {
+        let columns = tables::kept_at(kept, Place(p as u32));
+        good = good & is_clean_kept(columns);
+        p += 1;
+    }
+    good
+}
+
+// Whether the first n start numbers differ. The index comes in as that of no player; if they do, it is theirs.
+pub fn starts_differ(starts: &[u32], n: usize, index: &mut [u16; START_CELLS]) -> bool
+    requires { ⌜ (n ≤ mostPlayers) × (n ≤ length (now starts)) × ((p : ℕ) → p < n → isStart (getD (now starts) p 0) ≡ true) × IndexOf (now starts) 0 (now index) ⌝ }
+    ensures { λ r. ⌜ Told ((p : ℕ) → p < n → placeOf (now (starts .entry)) p (getD (now (starts .entry)) p 0) ≡ none) r × (r ≡ true → Indexed (now (starts .entry)) n (now (index .exit))) ⌝ }
+{
+    let mut p = 0;
+    while p < n {
+        let place = Place(p as u32);
+        let own = tables::own_cell(place);
+        let start = StartNumber(starts[own]);
+        let Placed::Nobody = checks::place_of(index, start.0) else {
+            return false;
+        };
+        checks::index_start(index, start, place);
+        p += 1;
+    }
+    true
+}
