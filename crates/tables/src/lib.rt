@@ -102,6 +102,14 @@ pub fn own_cell(place: Place) -> usize
     place.0 as usize
 }
 
+// The first cell of a player's kept columns.
+pub fn kept_cell(place: Place) -> usize
+    requires { ⌜ place .0 < mostPlayers ⌝ }
+    ensures { λ i. ⌜ (i ≡ place .0 * width keptField) × (i + width keptField ≤ keptCells) ⌝ }
+{
+    place.0 as usize * KEPT_COLUMNS
+}
+
 // The cell of a player and a round in an entry table.
 pub fn cell_of(place: Place, round: u32) -> usize
     requires { ⌜ (place .0 < mostPlayers) × (1 ≤ round) × (round ≤ mostRounds) ⌝ }

@@ -1,0 +1,27 @@
+-- The tables that writer and question are lent, and the acceleration records as their cores are given them: the first 32 by value, and how many are lent.
+use mathlib.Core.Path.{_≡_}
+use mathlib.Core.List.{List}
+use Prim.Native.Nat.{ℕ, _≤_}
+use lib.ListN.{length, take}
+use Rattle.types.specs.declared.Acceleration.{Acceleration}
+use Rattle.law.specs.Sizes.{mostAccelerations}
+use Rattle.law.specs.Tables.{Tables}
+
+abbrev pub tablesOf : List ℕ → List ℕ → List ℕ → List ℕ → List ℕ → List ℕ → List ℕ → List ℕ → List Acceleration → Tables
+tablesOf starts points ranks kept opponents colours results text accelerations =
+    record {
+      starts = starts;
+      points = points;
+      ranks = ranks;
+      kept = kept;
+      opponents = opponents;
+      colours = colours;
+      results = results;
+      text = text;
+      accelerations = accelerations;
+    }
+
+-- all: the array that a core is given; records: what is lent. An array for a list that is too short may hold anything
+pub record Given (accelerations : ℕ) (all records : List Acceleration) : Type 0 where
+  pub long : length records ≡ accelerations
+  pub firsts : mostAccelerations ≤ accelerations → all ≡ take mostAccelerations records
