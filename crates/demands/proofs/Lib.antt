@@ -1,1 +1,2 @@
 pub mod WrongReaders
+pub mod ReadBack
