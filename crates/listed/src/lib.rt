@@ -1,0 +1,106 @@
+// A file's listing: the file is read into tables of the listed sizes, and what was read is listed; from a descriptor, and to standard output.
+ghost use Prim.Native.Nat.{_≤_};
+ghost use lib.ListN.{length};
+ghost use Rattle.io.specs.Counts.{Counts};
+ghost use Rattle.listing.specs.Outcomes.{Lists};
+ghost use Rattle.listed.specs.Input.{BytesIn};
+use libc::STDOUT_FILENO;
+use listing::LISTING;
+
+// One byte more than the largest file, so that a larger one is seen to be larger: no more is read of it.
+const MOST_READ: usize = 65536;
+
+// The sizes of the lent tables.
+const PLAYERS: usize = 200;
+
+const ENTRIES: usize = 4000;
+
+const KEPT: usize = 14000;
+
+const TEXT: usize = 2048;
+
+const LINES: usize = 232;
+
+const ACCELERATIONS: usize = 32;
+
+// The bytes of a file's listing, from the first byte of `out` on, and how many there are.
+pub fn list_file(file: &[u8], out: &mut [u8; LISTING]) -> usize
+    ensures { λ r. ⌜ Counts r (now (out .exit)) ⌝ }
+    ensures { λ r. ⌜ Lists (now (file .entry)) (now (out .entry)) r (now (out .exit)) ⌝ }
+{
+    let mut starts = [0u32; PLAYERS];
+    let mut points = [0u32; PLAYERS];
+    let mut ranks = [0u32; PLAYERS];
+    let mut kept = [0u8; KEPT];
+    let mut opponents = [0u32; ENTRIES];
+    let mut colours = [0u8; ENTRIES];
+    let mut results = [0u8; ENTRIES];
+    let mut text = [0u8; TEXT];
+    let mut lines = [0u32; LINES];
+    let core = reader::read_core(
+        file,
+        &mut starts,
+        &mut points,
+        &mut ranks,
+        &mut kept,
+        &mut opponents,
+        &mut colours,
+        &mut results,
+        &mut text,
+        &mut lines,
+        ACCELERATIONS,
+    );
+    let answer = core.answer;
+    listing::put_listing(
+        out,
+        answer,
+        &starts,
+        &points,
+        &ranks,
+        &opponents,
+        &colours,
+        &results,
+    )
+}
+
+// The listing of a file, to standard output.
+pub fn print_listing(file: &[u8]) {
+    let mut out = [0u8; LISTING];
+    let n = list_file(file, &mut out);
+    io::write_all(STDOUT_FILENO, &out[..n]);
+}
+
+// What was read: so many bytes, or a read failed.
+pub enum Input {
+    Bytes(usize),
+    Failed,
+}
+
+// Reads to the end of a file, or until there is no room. A read that fails is not the end.
+fn read_input(fd: i32, file: &mut [u8]) -> Input
+    ensures { λ r. ⌜ BytesIn r (length (now (file .entry))) ⌝ }
+{
+    let mut n = 0;
+    while n < file.len() {
+        let got = libc::read(fd, &mut file[n..]);
+        if got < 0 {
+            return Input::Failed;
+        }
+        let more = io::count(got, &file[n..]);
+        if more == 0 {
+            return Input::Bytes(n);
+        }
+        n += more;
+    }
+    Input::Bytes(n)
+}
+
+// The listing of what a descriptor gives, to standard output. Answers false, and writes nothing, where it cannot be read.
+pub fn print_input(fd: i32) -> bool {
+    let mut file = [0u8; MOST_READ];
+    let Input::Bytes(n) = read_input(fd, &mut file) else {
+        return false;
+    };
+    print_listing(&file[..n]);
+    true
+}

@@ -1,0 +1,22 @@
+-- `listing::put_field` meets its contract. Assumes nothing.
+use borrow.Author.Needs.{needs}
+use Rattle.listing.specs.Listing.{field}
+use Rattle.listing.proofs.Puts.{put-then}
+use Rattle.listing.proofs.put_field.Statement.{statement}
+use Rattle.listing.proofs.put_field.Tie as tie
+
+put-byte-requires : tie.Need-put-byte-requires
+put-byte-requires c κs = search needs
+
+put-number-requires : tie.Need-put-number-requires
+put-number-requires c κs = search needs
+
+same-length : tie.Need-same-length
+same-length c = search needs
+
+returns : tie.Need-returns
+unfolding field
+returns c = (put-then (c .before .before .before .before .before .before .put-byte .ensures .0) (c .before .before .put-number .ensures .0), search needs)
+
+pub put-field-spec : {M : Type 1} → statement M
+put-field-spec = tie.close (tie.spec put-byte-requires put-number-requires same-length returns)
