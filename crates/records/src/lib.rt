@@ -251,7 +251,7 @@ pub fn rounds_of(line: &[u8]) -> Rounds
     Rounds::Given(n)
 }
 
-fn is_initial(c: u8) -> bool
+pub fn is_initial(c: u8) -> bool
     ensures { λ r. ⌜ r ≡ among c initialColours ⌝ }
 {
     match c {

@@ -22,13 +22,13 @@ use types::Place;
 pub const MOST_ROUNDS: usize = 20;
 
 // The listed sizes.
-const PLAYERS: usize = 200;
+pub const PLAYERS: usize = 200;
 
 pub const ENTRIES: usize = PLAYERS * MOST_ROUNDS;
 
-const KEPT: usize = PLAYERS * KEPT_COLUMNS;
+pub const KEPT: usize = PLAYERS * KEPT_COLUMNS;
 
-const TEXT: usize = 2048;
+pub const TEXT: usize = 2048;
 
 const ACCELERATIONS: usize = 32;
 
