@@ -24,21 +24,21 @@ fn show_pair(
     drafts::show(name, &file, n);
 }
 
-// T with other points and entries.
+// T with other points and entries, of one round.
 fn show_entries(
     name: &[u8],
-    points: &[u8],
-    entries: &[u8],
-    other_points: &[u8],
-    other_entries: &[u8],
+    points: &[u8; 4],
+    entry: &[u8; 8],
+    other_points: &[u8; 4],
+    other_entry: &[u8; 8],
 ) {
     show_pair(
         name,
         b"012 Cup\r",
         points,
-        entries,
+        entry,
         other_points,
-        other_entries,
+        other_entry,
         b"",
     );
 }
@@ -132,7 +132,13 @@ fn show_byes() {
         b" 0.0",
         b"   1 b 0",
     );
-    show_entries(b"both entries blank", b" 0.0", b"", b" 0.0", b"");
+    show_entries(
+        b"both entries blank",
+        b" 0.0",
+        b"        ",
+        b" 0.0",
+        b"        ",
+    );
     show_entries(
         b"line 2 bye H, line 3 bye f",
         b" 0.5",
@@ -145,7 +151,7 @@ fn show_byes() {
         b" 1.0",
         b"   0   u",
         b" 0.0",
-        b"",
+        b"        ",
     );
 }
 
@@ -183,19 +189,23 @@ fn show_games() {
 fn show_unpaired() {
     show_entries(b"line 2 id 3", b" 1.0", b"   3 w 1", b" 0.0", b"   1 b 0");
     show_entries(b"line 3 a bye", b" 1.0", b"   2 w 1", b" 0.0", b"0000 - Z");
-    show_entries(
+    show_pair(
         b"round 2 alone not mutual",
+        b"012 Cup\r",
         b" 2.0",
         b"   2 w 1     2 b 1",
         b" 0.0",
         b"   1 b 0     1 b 0",
+        b"",
     );
-    show_entries(
+    show_pair(
         b"round 2 alone does not fit",
+        b"012 Cup\r",
         b" 2.0",
         b"   2 w 1     2 b 1",
         b" 0.0",
         b"   1 b 0     1 w L",
+        b"",
     );
 }
 
