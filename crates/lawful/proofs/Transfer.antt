@@ -1,20 +1,15 @@
 -- The array of the first 32 acceleration records stands for the lent list: a reading is good by the one exactly where it is by the other. Assumes nothing.
-use mathlib.Core.Path.{_≡_, refl, sym, ap₂, _∙_}
-use mathlib.Core.Bool.{true}
+use mathlib.Core.Path.{_≡_, sym, ap₂, _∙_}
 use mathlib.Core.List.{List}
 use Prim.Native.Nat.{ℕ, _≤_, _<_}
 use native.Mathlib.Omega.{arith}
-use lib.ListN.{length, getD}
+use lib.ListN.{getD}
 use lib.Seq.{getD-take}
-use borrow.Author.Tests.{le-leb}
-use Rattle.kit.proofs.Bools.{both}
 use Rattle.types.specs.declared.Acceleration.{Acceleration}
 use Rattle.types.specs.declared.Answer.{Answer}
-use Rattle.law.specs.Sizes.{mostPlayers, mostAccelerations, mostText}
+use Rattle.law.specs.Sizes.{mostAccelerations}
 use Rattle.law.specs.Accelerations.{shares}
 use Rattle.law.specs.Lawful.{noAcceleration}
-use Rattle.law.specs.Tables.{enough, keptCells, entryCells}
-use Rattle.law.proofs.ReadsOnce.{rooms-are}
 use Rattle.join.specs.Check.{sharedRecord}
 use Rattle.join.proofs.Firsts.{first-as, some-as}
 use Rattle.readings.specs.Good.{GoodReading}
@@ -66,16 +61,3 @@ module _ {a : Answer} {s p r k o c e x : List ℕ} where
 
     pub good-given : mostAccelerations ≤ n → GoodReading a (tablesOf s p r k o c e x records) → GoodReading a (tablesOf s p r k o c e x all)
     good-given l g = carried (λ i m. sym (given-same given l i m)) g
-
--- the array is long enough, by its type
-pub given-enough : (s p r k o c e x : List ℕ) (all records : List Acceleration) → length all ≡ mostAccelerations → enough (tablesOf s p r k o c e x records) ≡ true → enough (tablesOf s p r k o c e x all) ≡ true
-unfolding enough
-given-enough s p r k o c e x all records l h =
-    let q = rooms-are (tablesOf s p r k o c e x records) h in
-    both (le-leb mostPlayers (length s) (q .starts))
-    (both (le-leb mostPlayers (length p) (q .points))
-    (both (le-leb mostPlayers (length r) (q .ranks))
-    (both (le-leb keptCells (length k) (q .kept))
-    (both (le-leb entryCells (length o) (q .opponents))
-    (both (le-leb entryCells (length c) (q .colours))
-    (both (le-leb entryCells (length e) (q .results)) (both (le-leb mostText (length x) (q .text)) (both (le-leb mostAccelerations (length all) (omega arith)) refl))))))))

@@ -1,16 +1,27 @@
-// The question: what a player earned before a round, and the acceleration for it.
+// The question: what a player earned before a round, and the acceleration for it. Promised: what the statement says of a question, for every input.
 ghost use mathlib.Core.Path.{_≡_};
+ghost use mathlib.Core.Bool.{_&&_};
+ghost use mathlib.Core.List.{List};
 ghost use Prim.Native.Nat.{_≤_};
+ghost use lib.Dec.{leb, ltb};
 ghost use lib.ListN.{take};
 ghost use Rattle.kit.specs.Lists.{first};
 ghost use Rattle.law.specs.Sizes.{mostAccelerations};
 ghost use Rattle.law.specs.Accelerations as law;
+ghost use Rattle.law.specs.Refusals.{refusal};
 ghost use Rattle.law.specs.Writing.{pointsOr0};
+ghost use Rattle.law.specs.Calls.{scoreAnswer, Asks};
 ghost use Rattle.join.specs.Grid.{firstFrom};
 ghost use Rattle.checks.specs.Found.{asFound};
+ghost use Rattle.types.specs.declared.Acceleration as lent;
+ghost use Rattle.lawful.specs.Given.{tablesOf, Given};
 ghost use Rattle.question.specs.Covering.{coversAt};
 use checks::Found;
 use types::Acceleration;
+use types::Answer;
+use types::LineNumber;
+use types::Place;
+use types::Score;
 use types::StartNumber;
 
 // The most acceleration records.
@@ -60,4 +71,86 @@ fn acceleration_for(
     };
     let a = records[j];
     a.points
+}
+
+// Whether a reading has such a place, and such a round.
+fn is_inside(answer: Answer, place: Place, round: u32) -> bool
+    ensures { λ r. ⌜ r ≡ ltb (place .0) (answer .players) && (leb 1 round && leb round (answer .rounds)) ⌝ }
+{
+    (place.0 < answer.players) & ((1 <= round) & (round <= answer.rounds))
+}
+
+// The answer of a refusal.
+fn refused(number: u32) -> Score
+    ensures { λ r. ⌜ r ≡ scoreAnswer (refusal number 0 0) 0 0 ⌝ }
+{
+    Score {
+        number,
+        line: LineNumber(0),
+        round: 0,
+        points: 0,
+        acceleration: 0,
+    }
+}
+
+// The question: of a reading, a place in its tables and a round. all: the first acceleration records, of which so many are lent.
+pub fn ask_core(
+    answer: Answer,
+    starts: &[u32],
+    points: &[u32],
+    ranks: &[u32],
+    kept: &[u8],
+    opponents: &[u32],
+    colours: &[u8],
+    results: &[u8],
+    text: &[u8],
+    all: [Acceleration; ACCELERATIONS],
+    accelerations: usize,
+    place: Place,
+    round: u32,
+) -> Score
+    ensures { λ r. ⌜ ((records : List lent.Acceleration) → Given accelerations all records → Asks answer (tablesOf (now (starts .entry)) (now (points .entry)) (now (ranks .entry)) (now (kept .entry)) (now (opponents .entry)) (now (colours .entry)) (now (results .entry)) (now (text .entry)) records) place round r) ⌝ }
+{
+    let long = tables::enough(
+        starts.len(),
+        points.len(),
+        ranks.len(),
+        kept.len(),
+        opponents.len(),
+        colours.len(),
+        results.len(),
+        text.len(),
+        accelerations,
+    );
+    if !long {
+        return refused(1);
+    }
+    if !lawful::is_reading(
+        answer,
+        starts,
+        points,
+        ranks,
+        kept,
+        opponents,
+        colours,
+        results,
+        text,
+        all,
+    ) {
+        return refused(18);
+    }
+    if !is_inside(answer, place, round) {
+        return refused(20);
+    }
+    let values = answer.values;
+    let own = tables::own_cell(place);
+    let start = StartNumber(starts[own]);
+    let n = answer.accelerations as usize;
+    Score {
+        number: 0,
+        line: LineNumber(0),
+        round: 0,
+        points: checks::sum_of(results, values, place, round - 1),
+        acceleration: acceleration_for(all, n, start, round),
+    }
 }
