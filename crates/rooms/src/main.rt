@@ -1,5 +1,5 @@
 // Reads into tables of other lengths than the listed ones. A table one cell short: refusal 1, and no cell of any table changed. Longer tables: the cells
-// past the listed sizes stay, after an acceptance and after refusals. Of each reading: the answer's parts, how many cells of each table hold zero, and how
+// past the listed sizes stay, after an acceptance and after refusals. Of each reading: the answer's parts, and of each table how many cells hold zero and how
 // many hold the mark that all held before.
 ghost use Prim.Native.Nat.{_≤_};
 use drafts::ROOM;
@@ -100,10 +100,19 @@ fn print_field(n: u64) {
     io::print_decimal(STDOUT_FILENO, n);
 }
 
-// The cells of each table that hold a value, in the order of the parameters.
-fn print_counts(
-    word: &[u8],
-    value: u8,
+// Of one table: the cells that hold zero, and those that hold the mark.
+fn print_numbers(t: &[u32]) {
+    print_field(count_numbers(t, 0));
+    print_field(count_numbers(t, MARK));
+}
+
+fn print_bytes(t: &[u8]) {
+    print_field(count_bytes(t, 0));
+    print_field(count_bytes(t, MARK));
+}
+
+// Of each table, in the order of the parameters.
+fn print_cells(
     starts: &[u32],
     points: &[u32],
     ranks: &[u32],
@@ -114,16 +123,16 @@ fn print_counts(
     text: &[u8],
     lines: &[u32],
 ) {
-    io::write_all(STDOUT_FILENO, word);
-    print_field(count_numbers(starts, value));
-    print_field(count_numbers(points, value));
-    print_field(count_numbers(ranks, value));
-    print_field(count_bytes(kept, value));
-    print_field(count_numbers(opponents, value));
-    print_field(count_bytes(colours, value));
-    print_field(count_bytes(results, value));
-    print_field(count_bytes(text, value));
-    print_field(count_numbers(lines, value));
+    io::write_all(STDOUT_FILENO, b"cells");
+    print_numbers(starts);
+    print_numbers(points);
+    print_numbers(ranks);
+    print_bytes(kept);
+    print_numbers(opponents);
+    print_bytes(colours);
+    print_bytes(results);
+    print_bytes(text);
+    print_numbers(lines);
     io::write_all(STDOUT_FILENO, b"\n");
 }
 
@@ -170,22 +179,7 @@ fn read_case(name: &[u8], file: &[u8; ROOM], n: usize, short: usize) {
     );
     drafts::print_name(name);
     print_answer(core);
-    print_counts(
-        b"zero",
-        0,
-        &starts,
-        &points,
-        &ranks,
-        &kept,
-        &opponents,
-        &colours,
-        &results,
-        &text,
-        &lines,
-    );
-    print_counts(
-        b"marked",
-        MARK,
+    print_cells(
         &starts,
         &points,
         &ranks,
