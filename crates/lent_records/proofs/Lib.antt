@@ -1,0 +1,5 @@
+pub mod Merged
+pub mod Rows
+pub mod Element
+pub mod Upwards
+pub mod Within

@@ -1,0 +1,78 @@
+// The acceleration records as they are lent: a list of structs, one a 250 record, in file order. These few functions are the only ones that touch it; all else
+// works on an array by value. Each is proved by a walk of its code by hand. Promised: how many there are, and which cells are written and read.
+use types::Acceleration;
+ghost use mathlib.Core.Path.{_≡_};
+ghost use Prim.Native.Nat.{_≤_};
+ghost use lib.ListN.{length, take, drop};
+ghost use mathlib.Core.List.{_++_};
+ghost use Rattle.law.specs.Sizes.{mostAccelerations};
+ghost use Rattle.lent_records.specs.Taking.{startOf};
+
+// As many records as the box carries.
+pub const ACCELERATIONS: usize = 32;
+
+// No acceleration record.
+const NO_ACCELERATION: Acceleration = Acceleration {
+    points: 0,
+    first_round: 0,
+    last_round: 0,
+    first_start: 0,
+    last_start: 0,
+};
+
+// How many records are lent.
+pub fn count(records: &[Acceleration]) -> usize
+    ensures { λ r. ⌜ r ≡ length (now (records .entry)) ⌝ }
+{
+    records.len()
+}
+
+// The first n cells become the first n of all; the others stay.
+pub fn fill(records: &mut [Acceleration], all: [Acceleration; ACCELERATIONS], n: usize)
+    requires { ⌜ (n ≤ length (now records)) × (n ≤ mostAccelerations) ⌝ }
+    ensures { λ _. ⌜ now (records .exit) ≡ take n all ++ drop n (now (records .entry)) ⌝ }
+{
+    let mut i = 0;
+    while i < n {
+        records[i] = all[i];
+        i += 1;
+    }
+}
+
+// The first n cells by value, before what follows the first n of blank.
+pub fn taken(
+    records: &[Acceleration],
+    blank: [Acceleration; ACCELERATIONS],
+    n: usize,
+) -> [Acceleration; ACCELERATIONS]
+    requires { ⌜ (n ≤ length (now records)) × (n ≤ mostAccelerations) ⌝ }
+    ensures { λ r. ⌜ r ≡ take n (now (records .entry)) ++ drop n blank ⌝ }
+{
+    let mut all = blank;
+    let mut i = 0;
+    while i < n {
+        all[i] = records[i];
+        i += 1;
+    }
+    all
+}
+
+// What taking starts from: blank records, and how many are to be taken: all that the box carries, or none where fewer are lent.
+pub struct Start {
+    pub blank: [Acceleration; ACCELERATIONS],
+    pub n: usize,
+}
+
+// What taking starts from where so many are lent.
+pub fn starting(lent: usize) -> Start
+    ensures { λ r. ⌜ r ≡ startOf lent ⌝ }
+{
+    let blank = [NO_ACCELERATION; ACCELERATIONS];
+    if lent < ACCELERATIONS {
+        return Start { blank, n: 0 };
+    }
+    Start {
+        blank,
+        n: ACCELERATIONS,
+    }
+}
