@@ -359,10 +359,11 @@ fn wide(x: u16) -> u32
     x as u32
 }
 
-// The player whom an id names, by the index. No player has a number that the index has no cell for.
-pub fn place_of(index: &[u16; START_CELLS], id: u32) -> Placed
-    ensures { λ r. ⌜ ((starts : List ℕ) (n : ℕ) → IndexOf starts n (now (index .entry)) → LowStarts starts n → r ≡ asPlaced (placeOf starts n id)) ⌝ }
+// The player with a start number, by the index. No player has a number that the index has no cell for.
+pub fn place_of(index: &[u16; START_CELLS], start: StartNumber) -> Placed
+    ensures { λ r. ⌜ ((starts : List ℕ) (n : ℕ) → IndexOf starts n (now (index .entry)) → LowStarts starts n → r ≡ asPlaced (placeOf starts n (start .0))) ⌝ }
 {
+    let id = start.0;
     if MOST_START < id {
         return Placed::Nobody;
     }
@@ -435,7 +436,7 @@ fn keeps_bye_or_game(
         return true;
     }
     let own = tables::own_cell(place);
-    let opponent = place_of(index, id);
+    let opponent = place_of(index, StartNumber(id));
     is_game(id, colour, result, StartNumber(starts[own]), opponent)
 }
 
@@ -453,7 +454,8 @@ fn keeps_mutual(
     ensures { λ r. ⌜ ((n : ℕ) (results : List ℕ) → Indexed (now (starts .entry)) n (now (index .entry)) → r ≡ keepsCell mutual-pairing n (four (now (starts .entry)) (now (opponents .entry)) (now (colours .entry)) results) (place .0) round) ⌝ }
 {
     let i = tables::cell_of(place, round);
-    let opponent = place_of(index, opponents[i]);
+    let id = opponents[i];
+    let opponent = place_of(index, StartNumber(id));
     let Placed::At(other) = opponent else {
         return true;
     };
@@ -475,7 +477,8 @@ fn keeps_fitting(
     ensures { λ r. ⌜ ((n : ℕ) (starts colours : List ℕ) → Indexed starts n (now (index .entry)) → r ≡ keepsCell fitting-results n (four starts (now (opponents .entry)) colours (now (results .entry))) (place .0) round) ⌝ }
 {
     let i = tables::cell_of(place, round);
-    let opponent = place_of(index, opponents[i]);
+    let id = opponents[i];
+    let opponent = place_of(index, StartNumber(id));
     let Placed::At(other) = opponent else {
         return true;
     };

@@ -206,7 +206,7 @@ pub fn starts_differ(starts: &[u32], n: usize, index: &mut [u16; START_CELLS]) -
         let place = Place(p as u32);
         let own = tables::own_cell(place);
         let start = StartNumber(starts[own]);
-        let Placed::Nobody = checks::place_of(index, start.0) else {
+        let Placed::Nobody = checks::place_of(index, start) else {
             return false;
         };
         checks::index_start(index, start, place);

@@ -1,5 +1,5 @@
 // The acceleration records as they are lent: a list of structs, one a 250 record, in file order. These few functions are the only ones that touch it; all else
-// works on an array by value. Each is proved by a walk of its code by hand. Promised: how many there are, and which cells are written and read.
+// works on an array by value. Each is proved by a walk of its code by hand. Promised: which cells are written and read.
 use types::Acceleration;
 ghost use mathlib.Core.Path.{_≡_};
 ghost use Prim.Native.Nat.{_≤_};
@@ -19,13 +19,6 @@ const NO_ACCELERATION: Acceleration = Acceleration {
     first_start: 0,
     last_start: 0,
 };
-
-// How many records are lent.
-pub fn count(records: &[Acceleration]) -> usize
-    ensures { λ r. ⌜ r ≡ length (now (records .entry)) ⌝ }
-{
-    records.len()
-}
 
 // The first n cells become the first n of all; the others stay.
 pub fn fill(records: &mut [Acceleration], all: [Acceleration; ACCELERATIONS], n: usize)

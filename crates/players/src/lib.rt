@@ -152,7 +152,7 @@ pub fn step_player(
         };
     }
     let start = row.start;
-    let Placed::Nobody = checks::place_of(index, start.0) else {
+    let Placed::Nobody = checks::place_of(index, start) else {
         return Stepped {
             fault: 8,
             counts: c,
