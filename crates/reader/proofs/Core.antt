@@ -121,21 +121,6 @@ long-as l z =
       lines = let e = z .lines .long in let h = l .lines in omega arith;
     }
 
--- what was only written within its listed cells is as long as before
-pub long-within : {b x : Nine} → Long b → WithinNine b x → Long x
-long-within l z =
-    record {
-      starts = let e = z .starts .long in let h = l .starts in omega arith;
-      points = let e = z .points .long in let h = l .points in omega arith;
-      ranks = let e = z .ranks .long in let h = l .ranks in omega arith;
-      kept = let e = z .kept .long in let h = l .kept in omega arith;
-      opponents = let e = z .opponents .long in let h = l .opponents in omega arith;
-      colours = let e = z .colours .long in let h = l .colours in omega arith;
-      results = let e = z .results .long in let h = l .results in omega arith;
-      text = let e = z .text .long in let h = l .text in omega arith;
-      lines = let e = z .lines .long in let h = l .lines in omega arith;
-    }
-
 -- ---- the records, filled in
 records-held : (f : ℕ → Acceleration) (all before : List Acceleration) → Holds noAcceleration mostAccelerations f noRecords all → mostAccelerations ≤ length before
     → Holds noAcceleration mostAccelerations f before (take mostAccelerations all ++ drop mostAccelerations before)
