@@ -5,23 +5,25 @@ ghost use Rattle.io.specs.Counts.{Counts};
 ghost use Rattle.listing.specs.Outcomes.{Lists};
 ghost use Rattle.listed.specs.Input.{BytesIn};
 use libc::STDOUT_FILENO;
+use listing::ANSWER_LINE;
 use listing::LISTING;
+use types::Answer;
 
 // One byte more than the largest file, so that a larger one is seen to be larger: no more is read of it.
-const MOST_READ: usize = 65536;
+pub const MOST_READ: usize = 65536;
 
 // The sizes of the lent tables.
-const PLAYERS: usize = 200;
+pub const PLAYERS: usize = 200;
 
-const ENTRIES: usize = 4000;
+pub const ENTRIES: usize = 4000;
 
-const KEPT: usize = 14000;
+pub const KEPT: usize = 14000;
 
-const TEXT: usize = 2048;
+pub const TEXT: usize = 2048;
 
-const LINES: usize = 232;
+pub const LINES: usize = 232;
 
-const ACCELERATIONS: usize = 32;
+pub const ACCELERATIONS: usize = 32;
 
 // The bytes of a file's listing, from the first byte of `out` on, and how many there are.
 pub fn list_file(file: &[u8], out: &mut [u8; LISTING]) -> usize
@@ -70,6 +72,13 @@ pub fn print_listing(file: &[u8]) {
     io::write_all(STDOUT_FILENO, &out[..n]);
 }
 
+// The line of a refusal, to a descriptor.
+pub fn print_refused(fd: i32, answer: Answer) {
+    let mut out = [0u8; ANSWER_LINE];
+    let n = listing::put_refused(&mut out, answer);
+    io::write_all(fd, &out[..n]);
+}
+
 // What was read: so many bytes, or a read failed.
 pub enum Input {
     Bytes(usize),
@@ -77,7 +86,7 @@ pub enum Input {
 }
 
 // Reads to the end of a file, or until there is no room. A read that fails is not the end.
-fn read_input(fd: i32, file: &mut [u8]) -> Input
+pub fn read_input(fd: i32, file: &mut [u8]) -> Input
     ensures { λ r. ⌜ BytesIn r (length (now (file .entry))) ⌝ }
 {
     let mut n = 0;

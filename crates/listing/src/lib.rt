@@ -9,7 +9,7 @@ ghost use Rattle.law.specs.Tables.{entryCells};
 ghost use Rattle.law.specs.Writing.{filled, nothing};
 ghost use Rattle.law.specs.Writing as writing;
 ghost use Rattle.listing.specs.Put.{Put};
-ghost use Rattle.listing.specs.Listing.{six, Long, decimal, field, entryField, entryFields, standing, playerLine, playerLines, answerLine, listing, mostPlayerLine, mostAnswerLine, mostListing};
+ghost use Rattle.listing.specs.Listing.{six, Long, decimal, field, entryField, entryFields, standing, playerLine, playerLines, answerLine, listing, mostPlayerLine, mostAnswerLine, mostListing, refusedListing};
 use types::Answer;
 use types::Place;
 
@@ -19,7 +19,7 @@ const DIGITS: usize = 10;
 // The most bytes of a whole listing, of the answer's line in it, and of a player's.
 pub const LISTING: usize = ANSWER_LINE + 200 * PLAYER_LINE;
 
-const ANSWER_LINE: usize = 42;
+pub const ANSWER_LINE: usize = 42;
 
 const PLAYER_LINE: usize = 293;
 
@@ -195,6 +195,15 @@ fn put_answer(out: &mut [u8], word: &[u8], first: u32, second: u32, third: u32) 
     put_byte(out, of_third, LF)
 }
 
+// The one line of a refusal.
+pub fn put_refused(out: &mut [u8], answer: Answer) -> usize
+    requires { ⌜ mostAnswerLine ≤ length (now out) ⌝ }
+    ensures { λ r. ⌜ Put (refusedListing answer) 0 (now (out .entry)) r (now (out .exit)) × (r ≤ mostAnswerLine) ⌝ }
+{
+    let line = answer.line;
+    put_answer(out, b"refused", answer.number, line.0, answer.round)
+}
+
 // The whole listing, from the first byte on. The tables are not looked at after a refusal.
 pub fn put_listing(
     out: &mut [u8],
@@ -212,8 +221,7 @@ pub fn put_listing(
     ensures { λ r. ⌜ Put (listing answer (six (now (starts .entry)) (now (points .entry)) (now (ranks .entry)) (now (opponents .entry)) (now (colours .entry)) (now (results .entry)))) 0 (now (out .entry)) r (now (out .exit)) × (r ≤ mostListing) ⌝ }
 {
     if answer.number != 0 {
-        let line = answer.line;
-        return put_answer(out, b"refused", answer.number, line.0, answer.round);
+        return put_refused(out, answer);
     }
     let end = put_answer(
         out,

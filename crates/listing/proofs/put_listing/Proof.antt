@@ -6,24 +6,21 @@ use Rattle.listing.specs.Listing.{six}
 use Rattle.listing.proofs.put_listing.Statement.{statement}
 use Rattle.listing.proofs.put_listing.Tie as tie
 
-slice-aggregate-put-answer : tie.Need-slice-aggregate-put-answer
-slice-aggregate-put-answer c = search needs
-
-put-answer-requires : tie.Need-put-answer-requires
-put-answer-requires c κs = search needs
+put-refused-requires : tie.Need-put-refused-requires
+put-refused-requires c κs = search needs
 
 same-length : tie.Need-same-length
 same-length c = search needs
 
 returns : tie.Need-returns
 returns c =
-    let s : tie.Start = c .before .before .before .before .before .before .before .before .before .before .before .before .before .before .before in (listing-refused (s .args .answer) (six (s .args .starts .now) (s .args .points .now) (s .args .ranks .now) (s .args .opponents .now) (s .args .colours .now) (s .args .results .now)) (c .before .before .before .before .before .before .if1 .taken) (c .before .before .put-answer .ensures .0), search needs)
+    let s : tie.Start = c .before .before .before .before .before .before .before .before .before .before .before .before .before in (listing-refused (s .args .answer) (six (s .args .starts .now) (s .args .points .now) (s .args .ranks .now) (s .args .opponents .now) (s .args .colours .now) (s .args .results .now)) (c .before .before .before .before .if1 .taken) (c .before .before .put-refused .ensures .0), search needs)
 
-slice-aggregate-put-answer-2 : tie.Need-slice-aggregate-put-answer-2
-slice-aggregate-put-answer-2 c = search needs
+slice-aggregate-put-answer : tie.Need-slice-aggregate-put-answer
+slice-aggregate-put-answer c = search needs
 
-put-answer-requires-2 : tie.Need-put-answer-requires-2
-put-answer-requires-2 c κs = search needs
+put-answer-requires : tie.Need-put-answer-requires
+put-answer-requires c κs = search needs
 
 put-players-requires : tie.Need-put-players-requires
 put-players-requires c κs = search needs
@@ -34,7 +31,7 @@ same-length-2 c = search needs
 returns-2 : tie.Need-returns-2
 returns-2 c =
     let s : tie.Start = c .before .before .before .before .before .before .before .before .before .before .before .before .before .before .before .before .before .before in (
-      listing-accepted (s .args .answer) (six (s .args .starts .now) (s .args .points .now) (s .args .ranks .now) (s .args .opponents .now) (s .args .colours .now) (s .args .results .now)) (c .before .before .before .before .before .before .before .before .before .if1 .left) (put-then (c .before .before .before .before .before .before .put-answer2 .ensures .0) (c .before .before .put-players .ensures .0)),
+      listing-accepted (s .args .answer) (six (s .args .starts .now) (s .args .points .now) (s .args .ranks .now) (s .args .opponents .now) (s .args .colours .now) (s .args .results .now)) (c .before .before .before .before .before .before .before .before .before .if1 .left) (put-then (c .before .before .before .before .before .before .put-answer .ensures .0) (c .before .before .put-players .ensures .0)),
       search needs,
     )
 
@@ -42,12 +39,11 @@ pub put-listing-spec : {M : Type 1} → statement M
 put-listing-spec =
     tie.close
     (tie.spec
-    slice-aggregate-put-answer
-    put-answer-requires
+    put-refused-requires
     same-length
     returns
-    slice-aggregate-put-answer-2
-    put-answer-requires-2
+    slice-aggregate-put-answer
+    put-answer-requires
     put-players-requires
     same-length-2
     returns-2)

@@ -1,0 +1,94 @@
+// A file in the writer's spelling: the file is read into tables of the listed sizes, and what was read is written; from a descriptor, and to standard
+// output.
+ghost use Rattle.io.specs.Counts.{Counts};
+use libc::STDERR_FILENO;
+use libc::STDOUT_FILENO;
+use listed::ACCELERATIONS;
+use listed::ENTRIES;
+use listed::Input;
+use listed::KEPT;
+use listed::LINES;
+use listed::MOST_READ;
+use listed::PLAYERS;
+use listed::TEXT;
+use types::Answer;
+
+// The longest file that the writer can produce.
+pub const MOST_WRITTEN: usize = 61141;
+
+// What the reading answered, and how many bytes were written: none where the file is refused.
+pub struct Rewritten {
+    pub answer: Answer,
+    pub length: usize,
+}
+
+// The bytes of a file in the writer's spelling, from the first byte of `out` on. The answer of a refusal is no reading, so that nothing is written of it.
+pub fn rewrite_file(file: &[u8], out: &mut [u8; MOST_WRITTEN]) -> Rewritten
+    ensures { λ r. ⌜ Counts (r .length) (now (out .exit)) ⌝ }
+{
+    let mut starts = [0u32; PLAYERS];
+    let mut points = [0u32; PLAYERS];
+    let mut ranks = [0u32; PLAYERS];
+    let mut kept = [0u8; KEPT];
+    let mut opponents = [0u32; ENTRIES];
+    let mut colours = [0u8; ENTRIES];
+    let mut results = [0u8; ENTRIES];
+    let mut text = [0u8; TEXT];
+    let mut lines = [0u32; LINES];
+    let core = reader::read_core(
+        file,
+        &mut starts,
+        &mut points,
+        &mut ranks,
+        &mut kept,
+        &mut opponents,
+        &mut colours,
+        &mut results,
+        &mut text,
+        &mut lines,
+        ACCELERATIONS,
+    );
+    let answer = core.answer;
+    let records = core.records;
+    let written = writer::write_core(
+        answer,
+        &starts,
+        &points,
+        &ranks,
+        &kept,
+        &opponents,
+        &colours,
+        &results,
+        &text,
+        records,
+        ACCELERATIONS,
+        out,
+    );
+    Rewritten {
+        answer,
+        length: written.length,
+    }
+}
+
+// A file in the writer's spelling, to standard output. A refusal's line goes to standard error.
+pub fn print_rewritten(file: &[u8]) {
+    let mut out = [0u8; MOST_WRITTEN];
+    let done = rewrite_file(file, &mut out);
+    let answer = done.answer;
+    let n = done.length;
+    if answer.number != 0 {
+        listed::print_refused(STDERR_FILENO, answer);
+        return;
+    }
+    io::write_all(STDOUT_FILENO, &out[..n]);
+}
+
+// The same, of what a descriptor gives. Answers false, and writes nothing, where it cannot be read.
+pub fn print_input(fd: i32) -> bool {
+    let mut file = [0u8; MOST_READ];
+    let Input::Bytes(n) = listed::read_input(fd, &mut file) else {
+        return false;
+    };
+    print_rewritten(&file[..n]);
+    true
+}
