@@ -1,4 +1,5 @@
--- What the writer wrote, the reader accepts and reads back: the same answer, and the same in every listed cell, whatever tables it is lent. Assumes nothing.
+-- What the writer wrote, the reader accepts and reads back: the same answer, and the same in every listed cell, whatever tables it is lent. Said of the relations that are the
+-- contracts of the two calls. Assumes nothing.
 use mathlib.Core.Path.{_≡_, refl, sym, ap, _∙_, subst}
 use mathlib.Core.Bool.{true}
 use mathlib.Core.List.{List}
@@ -17,8 +18,8 @@ use Rattle.law.specs.Tournament.{Tournament}
 use Rattle.law.specs.Lawful.{Lawful, noAcceleration}
 use Rattle.law.specs.Tables.{Tables, Lent, keptCells, entryCells, enoughLent, contentOf, HoldAll, answerOf}
 use Rattle.law.specs.Writing.{written}
-use Rattle.law.specs.Calls.{Reads, Denial, tables-short, no-reading, out-short, no-place, denialOf, OutShort, writtenAnswer, WriteRefused, WriteDone, Writes, write-refused, write-done}
-use Rattle.law.proofs.ReadsOnce.{reads-some, reads-lawful}
+use Rattle.law.specs.Calls.{Reads, Denial, tables-short, no-reading, out-short, no-place, denialOf, writtenAnswer, WriteRefused, WriteDone, Writes, write-refused, write-done}
+use Rattle.law.proofs.ReadsOnce.{reads-lawful}
 use Rattle.written.proofs.Spelled.{written-spells}
 use Rattle.written.proofs.Lengths.{written-long}
 use Rattle.written.proofs.Readings.{reading-has}
@@ -93,10 +94,11 @@ module _ (a : Answer) (t : Tables) (before : List ℕ) (r : Written) (after : Li
       room (no l) = omega arith
 
   -- ---- and is read back
-  pub read-back : Writes a t before r after → r .number ≡ 0 → (lent : Lent) → enoughLent lent ≡ true → (b : Answer) (x : Lent) → Reads (take (r .length) after) lent b x → (b ≡ a) × SameCells (x .tables) t
+  pub read-back : Writes a t before r after → r .number ≡ 0 → (lent : Lent) → enoughLent lent ≡ true → (b : Answer) (x : Lent) → Reads (take (r .length) after) lent b x → (b .number ≡ 0) × (b ≡ a) × SameCells (x .tables) t
+  unfolding answerOf
   read-back w e lent long b x h =
       let k = wrote w e in
       let q = subst (λ (file : List ℕ). Reads file lent b x) (k .bytes) h in
       let n = written-long (k .u) (k .lawful) in
       let l = reads-lawful (written cr (k .u)) (k .u) lent long (omega arith) (written-spells cr (k .u) (k .lawful)) (k .lawful) b x q in
-      (l .says ∙ sym (k .says), same-held (k .u) (l .holds .tables) (k .holds))
+      (ap (λ (v : Answer). v .number) (l .says), l .says ∙ sym (k .says), same-held (k .u) (l .holds .tables) (k .holds))
