@@ -1,6 +1,7 @@
 // Report files made by the test programs, piece by piece, and a listing with its name before it. What has no room is left out, so that no function
 // here asks anything of its caller.
 ghost use Prim.Native.Nat.{_≤_};
+ghost use lib.ListN.{length};
 use libc::STDOUT_FILENO;
 
 // One byte more than a file may have.
@@ -102,6 +103,70 @@ pub fn four(n: u32) -> [u8; 4] {
         b'0' + (n / 10 % 10) as u8,
         b'0' + (n % 10) as u8,
     ]
+}
+
+// So many players, with start numbers and ranks from 1 on, the same points and entries.
+pub fn put_players(
+    file: &mut [u8; ROOM],
+    at: usize,
+    players: u32,
+    points: &[u8],
+    entries: &[u8],
+) -> usize {
+    let mut end = at;
+    let mut k: u32 = 0;
+    while k < players {
+        k += 1;
+        let start = four(k);
+        end = put_player(file, end, &start, b"Roe", points, &start, entries);
+    }
+    end
+}
+
+// The same line, so many times.
+pub fn put_lines(file: &mut [u8; ROOM], at: usize, line: &[u8], times: u32) -> usize {
+    let mut end = at;
+    let mut k: u32 = 0;
+    while k < times {
+        end = put(file, end, line);
+        k += 1;
+    }
+    end
+}
+
+// Acceleration records, each for another start number.
+pub fn put_accelerations(file: &mut [u8; ROOM], at: usize, records: u32) -> usize {
+    let mut end = at;
+    let mut k: u32 = 0;
+    while k < records {
+        k += 1;
+        let start = four(k);
+        let of_rounds = put(file, end, b"250      01.0 001 020 ");
+        let of_first = put(file, of_rounds, &start);
+        let of_blank = put(file, of_first, b" ");
+        let of_last = put(file, of_blank, &start);
+        end = put(file, of_last, b"\r");
+    }
+    end
+}
+
+pub fn one_if(holds: bool) -> u64
+    ensures { λ r. ⌜ r ≤ 1 ⌝ }
+{
+    if holds { 1 } else { 0 }
+}
+
+// How many bytes have a value.
+pub fn count_bytes(t: &[u8], value: u8) -> u64
+    ensures { λ r. ⌜ r ≤ length (now (t .entry)) ⌝ }
+{
+    let mut n: u64 = 0;
+    let mut i = 0;
+    while i < t.len() {
+        n += one_if(t[i] == value);
+        i += 1;
+    }
+    n
 }
 
 // n, or the room where that is less.

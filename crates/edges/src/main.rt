@@ -20,34 +20,11 @@ fn show_comment(name: &[u8], bytes: usize) {
     drafts::show(name, &file, n);
 }
 
-// So many players, with start numbers from 1 on.
-fn put_players(file: &mut [u8; ROOM], at: usize, players: u32) -> usize {
-    let mut end = at;
-    let mut k: u32 = 0;
-    while k < players {
-        k += 1;
-        let start = drafts::four(k);
-        end = drafts::put_player(file, end, &start, b"Roe", b" 0.0", &start, b"");
-    }
-    end
-}
-
 fn show_players(name: &[u8], players: u32) {
     let mut file = [0u8; ROOM];
     let of_head = drafts::put(&mut file, 0, b"012 Cup\r");
-    let n = put_players(&mut file, of_head, players);
+    let n = drafts::put_players(&mut file, of_head, players, b" 0.0", b"");
     drafts::show(name, &file, n);
-}
-
-// The same line, so many times.
-fn put_lines(file: &mut [u8; ROOM], at: usize, line: &[u8], times: u32) -> usize {
-    let mut end = at;
-    let mut k: u32 = 0;
-    while k < times {
-        end = drafts::put(file, end, line);
-        k += 1;
-    }
-    end
 }
 
 // One player, then a line so many times, and then another.
@@ -55,7 +32,7 @@ fn show_lines(name: &[u8], line: &[u8], times: u32, last: &[u8]) {
     let mut file = [0u8; ROOM];
     let of_head = drafts::put(&mut file, 0, b"012 Cup\r");
     let of_player = drafts::put_player(&mut file, of_head, b"   1", b"Roe", b" 0.0", b"   1", b"");
-    let of_lines = put_lines(&mut file, of_player, line, times);
+    let of_lines = drafts::put_lines(&mut file, of_player, line, times);
     let n = drafts::put(&mut file, of_lines, last);
     drafts::show(name, &file, n);
 }
@@ -67,33 +44,17 @@ fn show_blanks(name: &[u8], times: u32, blanks: usize) {
     let mut file = [0u8; ROOM];
     let of_head = drafts::put(&mut file, 0, b"012 Cup\r");
     let of_player = drafts::put_player(&mut file, of_head, b"   1", b"Roe", b" 0.0", b"   1", b"");
-    let of_lines = put_lines(&mut file, of_player, &line, times);
+    let of_lines = drafts::put_lines(&mut file, of_player, &line, times);
     let of_blanks = drafts::put_many(&mut file, of_lines, b' ', blanks);
     let n = drafts::put(&mut file, of_blanks, b"\r");
     drafts::show(name, &file, n);
-}
-
-// Acceleration records, each for another start number.
-fn put_accelerations(file: &mut [u8; ROOM], at: usize, records: u32) -> usize {
-    let mut end = at;
-    let mut k: u32 = 0;
-    while k < records {
-        k += 1;
-        let start = drafts::four(k);
-        let of_rounds = drafts::put(file, end, b"250      01.0 001 020 ");
-        let of_first = drafts::put(file, of_rounds, &start);
-        let of_blank = drafts::put(file, of_first, b" ");
-        let of_last = drafts::put(file, of_blank, &start);
-        end = drafts::put(file, of_last, b"\r");
-    }
-    end
 }
 
 fn show_accelerations(name: &[u8], records: u32) {
     let mut file = [0u8; ROOM];
     let of_head = drafts::put(&mut file, 0, b"012 Cup\r");
     let of_player = drafts::put_player(&mut file, of_head, b"   1", b"Roe", b" 0.0", b"   1", b"");
-    let n = put_accelerations(&mut file, of_player, records);
+    let n = drafts::put_accelerations(&mut file, of_player, records);
     drafts::show(name, &file, n);
 }
 

@@ -68,28 +68,12 @@ fn read_parts(
     )
 }
 
-fn one_if(holds: bool) -> u64
-    ensures { λ r. ⌜ r ≤ 1 ⌝ }
-{
-    if holds { 1 } else { 0 }
-}
-
 // How many cells hold a value.
 fn count_numbers(t: &[u32], value: u8) -> u64 {
     let mut n: u64 = 0;
     let mut i = 0;
     while i < t.len() {
-        n += one_if(t[i] == value as u32);
-        i += 1;
-    }
-    n
-}
-
-fn count_bytes(t: &[u8], value: u8) -> u64 {
-    let mut n: u64 = 0;
-    let mut i = 0;
-    while i < t.len() {
-        n += one_if(t[i] == value);
+        n += drafts::one_if(t[i] == value as u32);
         i += 1;
     }
     n
@@ -107,8 +91,8 @@ fn print_numbers(t: &[u32]) {
 }
 
 fn print_bytes(t: &[u8]) {
-    print_field(count_bytes(t, 0));
-    print_field(count_bytes(t, MARK));
+    print_field(drafts::count_bytes(t, 0));
+    print_field(drafts::count_bytes(t, MARK));
 }
 
 // Of each table, in the order of the parameters.

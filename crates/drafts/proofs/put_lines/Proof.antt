@@ -1,8 +1,8 @@
--- `edges::put_lines` meets its contract. The loop counts up to what is asked. Assumes nothing.
+-- `drafts::put_lines` meets its contract. The loop counts up to what is asked. Assumes nothing.
 use borrow.Author.Needs.{needs}
 use Prim.Native.Nat.{_-_, _≤_}
-use Rattle.edges.proofs.put_lines.Statement.{statement}
-use Rattle.edges.proofs.put_lines.Tie as tie
+use Rattle.drafts.proofs.put_lines.Statement.{statement}
+use Rattle.drafts.proofs.put_lines.Tie as tie
 
 abbrev Inv-loop : tie.InvT-loop
 Inv-loop file₀ at line times end₀ k₀ file end k = k ≤ times

@@ -1,8 +1,8 @@
--- `edges::put_accelerations` meets its contract. The loop counts up to what is asked. Assumes nothing.
+-- `drafts::put_accelerations` meets its contract. The loop counts up to what is asked. Assumes nothing.
 use borrow.Author.Needs.{needs}
 use Prim.Native.Nat.{_-_, _≤_}
-use Rattle.edges.proofs.put_accelerations.Statement.{statement}
-use Rattle.edges.proofs.put_accelerations.Tie as tie
+use Rattle.drafts.proofs.put_accelerations.Statement.{statement}
+use Rattle.drafts.proofs.put_accelerations.Tie as tie
 
 abbrev Inv-loop : tie.InvT-loop
 Inv-loop file₀ at records end₀ k₀ t11 t12 t13 file end k = k ≤ records

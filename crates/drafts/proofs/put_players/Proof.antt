@@ -1,14 +1,14 @@
--- `edges::put_players` meets its contract. The loop counts up to what is asked. Assumes nothing.
+-- `drafts::put_players` meets its contract. The loop counts up to what is asked. Assumes nothing.
 use borrow.Author.Needs.{needs}
 use Prim.Native.Nat.{_-_, _≤_}
-use Rattle.edges.proofs.put_players.Statement.{statement}
-use Rattle.edges.proofs.put_players.Tie as tie
+use Rattle.drafts.proofs.put_players.Statement.{statement}
+use Rattle.drafts.proofs.put_players.Tie as tie
 
 abbrev Inv-loop : tie.InvT-loop
-Inv-loop file₀ at players end₀ k₀ t7 t8 t9 file end k = k ≤ players
+Inv-loop file₀ at players points entries end₀ k₀ t7 file end k = k ≤ players
 
 abbrev μ-loop : tie.MeasureT-loop
-μ-loop file₀ at players end₀ k₀ t7 t8 t9 file end k = players - k
+μ-loop file₀ at players points entries end₀ k₀ t7 file end k = players - k
 
 loop-holds : tie.Need-loop-holds Inv-loop μ-loop
 loop-holds c = search needs
@@ -27,12 +27,6 @@ slice-aggregate-put-player-2 c = search needs
 
 slice-aggregate-put-player-3 : tie.Need-slice-aggregate-put-player-3 Inv-loop μ-loop
 slice-aggregate-put-player-3 c = search needs
-
-slice-aggregate-put-player-4 : tie.Need-slice-aggregate-put-player-4 Inv-loop μ-loop
-slice-aggregate-put-player-4 c = search needs
-
-slice-aggregate-put-player-5 : tie.Need-slice-aggregate-put-player-5 Inv-loop μ-loop
-slice-aggregate-put-player-5 c = search needs
 
 put-player-requires : tie.Need-put-player-requires Inv-loop μ-loop
 put-player-requires c κs = search needs
@@ -58,8 +52,6 @@ put-players-spec =
     slice-aggregate-put-player
     slice-aggregate-put-player-2
     slice-aggregate-put-player-3
-    slice-aggregate-put-player-4
-    slice-aggregate-put-player-5
     put-player-requires
     loop-less
     loop-again

@@ -1,9 +1,9 @@
--- `rooms::count_bytes` meets its contract. The loop's invariant: no more cells are counted than passed. Assumes nothing.
+-- `drafts::count_bytes` meets its contract. The loop's invariant: no more cells are counted than passed. Assumes nothing.
 use borrow.Author.Needs.{needs}
 use lib.ListN.{length}
 use Prim.Native.Nat.{_-_, _≤_}
-use Rattle.rooms.proofs.count_bytes.Statement.{statement}
-use Rattle.rooms.proofs.count_bytes.Tie as tie
+use Rattle.drafts.proofs.count_bytes.Statement.{statement}
+use Rattle.drafts.proofs.count_bytes.Tie as tie
 
 abbrev Inv-loop : tie.InvT-loop
 Inv-loop t value n₀ i₀ n i = (n ≤ i) × (i ≤ length t)
