@@ -6,7 +6,7 @@ use drafts::ROOM;
 use libc::STDOUT_FILENO;
 use reader::CoreAnswer;
 
-// What every cell holds before a reading. No cell holds it after one of these.
+// What every cell holds before a reading. No cell that a reading wrote holds it.
 const MARK: u8 = 7;
 
 // The cells past each listed size.
@@ -136,7 +136,7 @@ fn print_answer(core: CoreAnswer) {
     io::write_all(STDOUT_FILENO, b"\n");
 }
 
-// One reading.
+// A reading into tables of which one may be short, and what it left.
 fn read_case(name: &[u8], file: &[u8; ROOM], n: usize, short: usize) {
     let mut starts = [7u32; 203];
     let mut points = [7u32; 203];

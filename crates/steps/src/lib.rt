@@ -92,7 +92,7 @@ fn place_in_2(b: u8) -> usize
     }
 }
 
-// The same by its first two bytes.
+// The same of all sixteen: each ends with 2, so that two bytes tell it.
 fn place_of_code(a: u8, b: u8) -> usize
     ensures { λ r. ⌜ r ≡ placeOfCode a b ⌝ }
 {
