@@ -37,14 +37,15 @@ use Rattle.checks.proofs.Indexes.{index-zeros}
 use Rattle.verdicts.specs.declared.Verdict.{Verdict}
 use Rattle.verdicts.specs.Verdict.{asVerdict}
 use Rattle.steps.specs.declared.Counts.{Counts}
+use Rattle.steps.specs.Counts as counts
 use Rattle.steps.specs.Counts.{asCount}
-use Rattle.reader.specs.declared.Ran.{Ran}
+use Rattle.runs.specs.declared.Ran.{Ran}
+use Rattle.runs.specs.Lined.{ran}
+use Rattle.judges.specs.declared.Finished.{Finished}
+use Rattle.judges.specs.Closing.{dash, zed, ClosedBy}
+use Rattle.judges.proofs.Judging.{verdict-numbered}
 use Rattle.reader.specs.declared.CoreAnswer.{CoreAnswer}
-use Rattle.reader.specs.declared.Finished.{Finished}
-use Rattle.reader.specs.Lined.{ran, dash, zed, ClosedBy}
-use Rattle.reader.specs.Lined as lined
 use Rattle.reader.specs.Core.{refusedCore, acceptedCore, HoldNine, Within, WithinNine, LinesAccepted, LinesRefused, LinesRead}
-use Rattle.reader.proofs.Judging.{verdict-numbered}
 
 -- by the answer's name
 pub read-as : {file : List ℕ} {b x : Nine} {r u : CoreAnswer} → r ≡ u → LinesRead file b u x → LinesRead file b r x
@@ -99,7 +100,7 @@ none-indexed starts c e =
     subst (λ (m : ℕ). Indexed starts m (replicate 10000 0)) (sym n)
     (record { few = omega arith; says = index-zeros starts 10000 (omega arith); low = λ i l. absurd (omega arith) })
 
-pub none-small : (c : Counts) → asCount c ≡ noCount → lined.Small c
+pub none-small : (c : Counts) → asCount c ≡ noCount → counts.Small c
 none-small c e =
     record {
       accelerations = let n : c .accelerations ≡ 0 = ap (λ (d : Count). d .accelerations) e in omega arith;

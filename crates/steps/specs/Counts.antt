@@ -1,9 +1,10 @@
 -- The counts and what a step answers, as join says them.
 use mathlib.Core.Bool.{cond}
 use mathlib.Core.List.{List, [], _∷_}
-use Prim.Native.Nat.{ℕ, _+_}
+use Prim.Native.Nat.{ℕ, _+_, _≤_}
 use Prim.Native.Char.{code}
 use lib.Dec.{eqb}
+use Rattle.law.specs.Sizes.{mostAccelerations, mostText}
 use Rattle.law.specs.Text.{textCodes}
 use Rattle.join.specs.Run.{Way, on, stop}
 use Rattle.join.specs.Store.{Nine, Count, State, state, codePlace}
@@ -24,6 +25,11 @@ asCount c =
       scored = c .scored;
       values = c .values;
     }
+
+-- no more than there is room for
+pub record Small (c : Counts) : Type 0 where
+  pub accelerations : c .accelerations ≤ mostAccelerations
+  pub text : c .text ≤ mostText
 
 -- the step of a line after ln others, and what it leaves: 0 and the state after it, or a fault and the state as it was
 abbrev pub went : ℕ → Stepped → Nine → Way State ℕ

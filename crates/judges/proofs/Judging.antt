@@ -17,7 +17,7 @@ use Rattle.join.specs.Check.{roundsSeen, roundsFound, pastCell, sharedRecord, w
 use Rattle.verdicts.specs.declared.Verdict.{Verdict}
 use Rattle.verdicts.specs.Verdict.{asVerdict, unlawfulIn}
 use Rattle.verdicts.proofs.Parts.{or-first, or-next}
-use Rattle.reader.specs.Lined.{isComplete, pastIn}
+use Rattle.judges.specs.Closing.{isComplete, pastIn}
 
 or-assoc : (a b c d p : Option Refusal) → orElse (orElse a (orElse b (orElse c d))) p ≡ orElse a (orElse b (orElse c (orElse d p)))
 or-assoc (some q) b c d p = refl

@@ -3,9 +3,9 @@ use mathlib.Core.Path.{sym, _∙_}
 use borrow.Author.Tests.{not-true, not-false}
 use borrow.Author.Needs.{needs}
 use Rattle.steps.specs.Counts.{asCount}
-use Rattle.reader.proofs.Judging.{judged-10, judged-11, judged-17, judged-12, judged-16}
-use Rattle.reader.proofs.judge.Statement.{statement}
-use Rattle.reader.proofs.judge.Tie as tie
+use Rattle.judges.proofs.Judging.{judged-10, judged-11, judged-17, judged-12, judged-16}
+use Rattle.judges.proofs.judge.Statement.{statement}
+use Rattle.judges.proofs.judge.Tie as tie
 
 is-complete-requires : tie.Need-is-complete-requires
 is-complete-requires c κs = search needs

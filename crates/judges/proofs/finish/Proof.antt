@@ -5,9 +5,9 @@ use native.Mathlib.Omega.{arith}
 use borrow.Author.Needs.{needs}
 use Rattle.law.specs.Sizes.{mostRounds}
 use Rattle.steps.specs.Counts.{asCount}
-use Rattle.reader.proofs.Judging.{past-in}
-use Rattle.reader.proofs.finish.Statement.{statement}
-use Rattle.reader.proofs.finish.Tie as tie
+use Rattle.judges.proofs.Judging.{past-in}
+use Rattle.judges.proofs.finish.Statement.{statement}
+use Rattle.judges.proofs.finish.Tie as tie
 
 rounds-of-requires : tie.Need-rounds-of-requires
 rounds-of-requires c κs = search needs

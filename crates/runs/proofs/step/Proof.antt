@@ -7,12 +7,12 @@ use Rattle.law.specs.Items.{passed-over, kept-text, 142-record, 152-record, 162
 use Rattle.join.specs.Store.{state, stepRow}
 use Rattle.tables.specs.Lent.{nine}
 use Rattle.steps.specs.Counts.{asCount}
-use Rattle.reader.proofs.Told.{kind-told}
-use Rattle.reader.proofs.Sound.{bad-byte, too-long, by-kind}
-use Rattle.reader.proofs.Room.{stepped, still-indexed, less}
+use Rattle.runs.proofs.Told.{kind-told}
+use Rattle.runs.proofs.Sound.{bad-byte, too-long, by-kind}
+use Rattle.runs.proofs.Room.{stepped, still-indexed, less}
 use borrow.Author.Needs.{needs}
-use Rattle.reader.proofs.step.Statement.{statement}
-use Rattle.reader.proofs.step.Tie as tie
+use Rattle.runs.proofs.step.Statement.{statement}
+use Rattle.runs.proofs.step.Tie as tie
 
 all-allowed-requires : tie.Need-all-allowed-requires
 all-allowed-requires c κs = search needs

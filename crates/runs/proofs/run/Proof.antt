@@ -6,10 +6,10 @@ use lib.ListN.{length}
 use denote.Ref.{now}
 use Rattle.lines.proofs.Told.{told-done, told-broken, told-whole}
 use Rattle.tables.specs.Lent.{nine}
-use Rattle.reader.proofs.Going.{Going, long-as, going-none, going-done, going-broken, going-stop, going-next}
+use Rattle.runs.proofs.Going.{Going, long-as, going-none, going-done, going-broken, going-stop, going-next}
 use borrow.Author.Needs.{needs}
-use Rattle.reader.proofs.run.Statement.{statement}
-use Rattle.reader.proofs.run.Tie as tie
+use Rattle.runs.proofs.run.Statement.{statement}
+use Rattle.runs.proofs.run.Tie as tie
 
 abbrev Inv-loop : tie.InvT-loop
 Inv-loop file index₀ starts₀ points₀ ranks₀ kept₀ opponents₀ colours₀ results₀ text₀ lines₀ c₀ cursor₀ ln₀ index starts points ranks kept opponents colours results text lines c cursor ln =

@@ -4,8 +4,8 @@ use mathlib.Core.Bool.{Bool, cond}
 use Prim.Native.Nat.{ℕ}
 use borrow.Author.Tests.{not-true, not-false}
 use borrow.Author.Needs.{needs}
-use Rattle.reader.proofs.broken_fault.Statement.{statement}
-use Rattle.reader.proofs.broken_fault.Tie as tie
+use Rattle.runs.proofs.broken_fault.Statement.{statement}
+use Rattle.runs.proofs.broken_fault.Tie as tie
 
 all-allowed-requires : tie.Need-all-allowed-requires
 all-allowed-requires c κs = search needs

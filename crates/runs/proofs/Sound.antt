@@ -11,7 +11,7 @@ use Rattle.law.specs.Lines.{allowed, End}
 use Rattle.law.specs.Items.{Kind, kindOf}
 use Rattle.join.specs.Run.{Way, on, stop}
 use Rattle.join.specs.Store.{State, stepRow, stepLine}
-use Rattle.reader.specs.Lined.{lineOf}
+use Rattle.runs.specs.Lined.{lineOf}
 
 module _ (text : List ℕ) (end : End) (s : State) where
   pub bad-byte : all allowed text ≡ false → stop 3 s ≡ stepLine (lineOf text end) s

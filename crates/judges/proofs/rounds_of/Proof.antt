@@ -2,9 +2,9 @@
 use denote.Ref.{now}
 use borrow.Author.Needs.{needs}
 use Rattle.steps.specs.Counts.{asCount}
-use Rattle.reader.proofs.Judging.{rounds-stated, rounds-not-stated}
-use Rattle.reader.proofs.rounds_of.Statement.{statement}
-use Rattle.reader.proofs.rounds_of.Tie as tie
+use Rattle.judges.proofs.Judging.{rounds-stated, rounds-not-stated}
+use Rattle.judges.proofs.rounds_of.Statement.{statement}
+use Rattle.judges.proofs.rounds_of.Tie as tie
 
 returns : tie.Need-returns
 returns c =

@@ -23,8 +23,8 @@ use Rattle.join.specs.Run.{Way, on, stop}
 use Rattle.join.specs.Store.{Nine, Count, State, state, refuseOr, placeOf, codePlace, countText, countRounds, countColour, countScoring, countAcceleration, countPlayer, stepText, stepRounds, stepColour, stepScoring, stepAcceleration, stepPlayer, stepRow, stepLine}
 use Rattle.checks.specs.Laws.{Indexed}
 use Rattle.steps.specs.declared.Stepped.{Stepped}
-use Rattle.steps.specs.Counts.{asCount, went}
-use Rattle.reader.specs.Lined.{lineOf, Small}
+use Rattle.steps.specs.Counts.{asCount, went, Small}
+use Rattle.runs.specs.Lined.{lineOf}
 
 abbrev InRoom : Count → Type 0
 InRoom c = (c .accelerations ≤ mostAccelerations) × (c .text ≤ mostText)

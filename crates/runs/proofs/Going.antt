@@ -19,8 +19,8 @@ use Rattle.lines.specs.Step.{BrokenAt, WholeAt}
 use Rattle.checks.specs.Laws.{Indexed}
 use Rattle.steps.specs.declared.Counts.{Counts}
 use Rattle.steps.specs.declared.Stepped.{Stepped}
-use Rattle.steps.specs.Counts.{asCount, went}
-use Rattle.reader.specs.Lined.{lineOf, Small, ran, brokenFault}
+use Rattle.steps.specs.Counts.{asCount, went, Small}
+use Rattle.runs.specs.Lined.{lineOf, ran, brokenFault}
 
 -- tables as long as those
 pub record Alike (b t : Nine) : Type 0 where

@@ -1,0 +1,4 @@
+pub mod Told
+pub mod Sound
+pub mod Room
+pub mod Going

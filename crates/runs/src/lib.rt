@@ -1,0 +1,181 @@
+// The run over the lines of a file: each line is refused or stored. Promised: the run over the statement's lines, and where it stops.
+ghost use mathlib.Core.Path.{_≡_};
+ghost use mathlib.Core.Bool.{false};
+ghost use Prim.Native.Nat.{ℕ, _+_, _≤_};
+ghost use lib.ListN.{length};
+ghost use Rattle.law.specs.Sizes.{mostFile};
+ghost use Rattle.law.specs.Lines.{End};
+ghost use Rattle.law.proofs.Cut.{cut};
+ghost use Rattle.join.specs.Run.{runAll};
+ghost use Rattle.join.specs.Store.{state, stepLine};
+ghost use Rattle.join.specs.Kept.{Long};
+ghost use Rattle.tables.specs.Lent.{lent, before, after};
+ghost use Rattle.checks.specs.Laws.{Indexed};
+ghost use Rattle.steps.specs.Counts.{asCount, went, Small};
+ghost use Rattle.runs.specs.Lined.{lineOf, ran, brokenFault};
+use checks::START_CELLS;
+use lines::Cursor;
+use lines::Step;
+use records::Kind;
+use steps::Counts;
+use steps::Stepped;
+use types::LineNumber;
+
+// The longest line.
+const MOST_LINE: usize = 512;
+
+// One line that has its terminator.
+fn step(
+    line: &[u8],
+    number: LineNumber,
+    c: Counts,
+    index: &mut [u16; START_CELLS],
+    starts: &mut [u32],
+    points: &mut [u32],
+    ranks: &mut [u32],
+    kept: &mut [u8],
+    opponents: &mut [u32],
+    colours: &mut [u8],
+    results: &mut [u8],
+    text: &mut [u8],
+    lines: &mut [u32],
+) -> Stepped
+    requires { ⌜ Long (lent starts points ranks kept opponents colours results text lines) ⌝ }
+    requires { ⌜ Indexed (now starts) (c .players) (now index) ⌝ }
+    requires { ⌜ Small c × (1 ≤ number .0) ⌝ }
+    ensures { λ r. ⌜ ((ln : ℕ) (end : End) → number .0 ≡ ln + 1 → went ln r (after starts points ranks kept opponents colours results text lines) ≡ stepLine (lineOf (now (line .entry)) end) (state ln (asCount c) (before starts points ranks kept opponents colours results text lines))) × Indexed (now (starts .exit)) (r .counts .players) (now (index .exit)) × Small (r .counts) ⌝ }
+{
+    if !lines::all_allowed(line) {
+        return Stepped {
+            fault: 3,
+            counts: c,
+        };
+    }
+    if MOST_LINE < line.len() {
+        return Stepped {
+            fault: 5,
+            counts: c,
+        };
+    }
+    match records::kind_of(line) {
+        Kind::PassedOver => Stepped {
+            fault: 0,
+            counts: c,
+        },
+        Kind::KeptText => steps::step_text(line, c, text),
+        Kind::Rounds => steps::step_rounds(line, c),
+        Kind::Colour => steps::step_colour(line, c),
+        Kind::Scoring => steps::step_scoring(line, c),
+        Kind::Acceleration => steps::step_acceleration(line, number, c, lines),
+        Kind::Player => players::step_player(
+            line,
+            number,
+            c,
+            index,
+            starts,
+            points,
+            ranks,
+            kept,
+            opponents,
+            colours,
+            results,
+            lines,
+        ),
+        Kind::Unlisted => Stepped {
+            fault: 6,
+            counts: c,
+        },
+    }
+}
+
+// What the lines left: the first that is refused, with its refusal, or 0 and how many there are; and the counts of those before it.
+pub struct Ran {
+    pub fault: u32,
+    pub line: LineNumber,
+    pub counts: Counts,
+}
+
+// The refusal of a last line that lacks its terminator.
+fn broken_fault(line: &[u8]) -> u32
+    ensures { λ r. ⌜ r ≡ brokenFault (now (line .entry)) ⌝ }
+{
+    if !lines::all_allowed(line) {
+        return 3;
+    }
+    4
+}
+
+// The lines of a file, one after the other.
+pub fn run(
+    file: &[u8],
+    none: Counts,
+    index: &mut [u16; START_CELLS],
+    starts: &mut [u32],
+    points: &mut [u32],
+    ranks: &mut [u32],
+    kept: &mut [u8],
+    opponents: &mut [u32],
+    colours: &mut [u8],
+    results: &mut [u8],
+    text: &mut [u8],
+    lines: &mut [u32],
+) -> Ran
+    requires { ⌜ length (now file) ≤ mostFile ⌝ }
+    requires { ⌜ Long (lent starts points ranks kept opponents colours results text lines) ⌝ }
+    requires { ⌜ Indexed (now starts) (none .players) (now index) ⌝ }
+    requires { ⌜ Small none ⌝ }
+    ensures { λ r. ⌜ (ran r (after starts points ranks kept opponents colours results text lines) ≡ runAll stepLine (cut false (now (file .entry))) 0 (state 0 (asCount none) (before starts points ranks kept opponents colours results text lines))) × Indexed (now (starts .exit)) (r .counts .players) (now (index .exit)) × Small (r .counts) ⌝ }
+{
+    let mut c = none;
+    let mut cursor = Cursor::new();
+    let mut ln: u32 = 0;
+    loop {
+        match cursor.next_line(file) {
+            Step::Done => {
+                return Ran {
+                    fault: 0,
+                    line: LineNumber(ln),
+                    counts: c,
+                };
+            }
+            Step::Broken { from, to } => {
+                let line = &file[from..to];
+                return Ran {
+                    fault: broken_fault(line),
+                    line: LineNumber(ln + 1),
+                    counts: c,
+                };
+            }
+            Step::Whole { from, to, next } => {
+                let line = &file[from..to];
+                let done = step(
+                    line,
+                    LineNumber(ln + 1),
+                    c,
+                    index,
+                    starts,
+                    points,
+                    ranks,
+                    kept,
+                    opponents,
+                    colours,
+                    results,
+                    text,
+                    lines,
+                );
+                let counts = done.counts;
+                if done.fault != 0 {
+                    return Ran {
+                        fault: done.fault,
+                        line: LineNumber(ln + 1),
+                        counts,
+                    };
+                }
+                c = counts;
+                cursor = next;
+                ln += 1;
+            }
+        }
+    }
+}
+
