@@ -71,7 +71,7 @@ JOINS_TAKEN = 'e (accelerations .now) (taken-given (accelerations .now) b z star
 CALLS = [
     dict(
         name='trf_read', shape='fills', parameters=[('file', '&u8'), *CHANGED, ('accelerations', '&mut records'), ('lines', '&mut u32')],
-        core='reader::read_core', arguments=['file', *NAMES, 'lines', COUNT], core_answer='reader::CoreAnswer', answer='types::Answer',
+        core='reader::read_core', arguments=['file', *NAMES, 'lines', COUNT], core_answer='lines_read::CoreAnswer', answer='types::Answer',
         uses=['use Rattle.tables.specs.Lent.{nine}', 'use Rattle.reader.specs.Core.{CoreReads}', 'use Rattle.law.specs.Calls.{Reads}', 'use Rattle.face.specs.Lent.{lentOf}'],
         core_says=lambda now, taken, r, last: f"CoreReads {now['file']} (nine {row(now)} {now['lines']}) count {r} (nine {row(last)} {last['lines']})",
         says=lambda now, r, last: f"Reads {now['file']} (lentOf {row(now)} {now['accelerations']} {now['lines']}) {r} (lentOf {row(last)} {last['accelerations']} {last['lines']})",

@@ -128,4 +128,3 @@ pub fn finish(
     );
     Finished { rounds, verdict }
 }
-

@@ -1,11 +1,12 @@
 -- What a step of the cursor says: the lines of what is left are the line that it found and the lines from the next cursor on.
 use mathlib.Core.Path.{_≡_}
-use mathlib.Core.Bool.{false}
+use mathlib.Core.Bool.{false, cond}
 use mathlib.Core.Option.{none}
 use mathlib.Core.List.{List, [], _∷_}
 use Prim.Native.Nat.{ℕ, suc, _-_, _≤_, _<_}
 use lib.ListN.{length, getD, take, drop}
-use Rattle.law.specs.Lines.{CR, startsWithLF}
+use Rattle.kit.specs.Lists.{all}
+use Rattle.law.specs.Lines.{CR, startsWithLF, allowed}
 use Rattle.law.proofs.Cut.{cut, endFor}
 use Rattle.lines.specs.declared.Step.{Step}
 use Rattle.lines.specs.declared.Step.the-variants.{Whole, Broken, Done}
@@ -36,3 +37,7 @@ unfoldable pub StepMeans : List ℕ → ℕ → Step → Type 0
 StepMeans file at Done = cut false (drop at file) ≡ []
 StepMeans file at (Broken from to) = BrokenAt file at from to
 StepMeans file at (Whole from to next) = WholeAt file at from to (next .at)
+
+-- a last line without its terminator: 3 before 4
+abbrev pub brokenFault : List ℕ → ℕ
+brokenFault text = cond (all allowed text) 4 3

@@ -7,7 +7,7 @@ ghost use lib.ListN.{length};
 ghost use Rattle.kit.specs.Lists.{all};
 ghost use Rattle.law.specs.Sizes.{mostFile};
 ghost use Rattle.law.specs.Lines.{allowed};
-ghost use Rattle.lines.specs.Step.{CRFrom, StepMeans};
+ghost use Rattle.lines.specs.Step.{CRFrom, StepMeans, brokenFault};
 
 const CR: u8 = 13;
 
@@ -107,4 +107,14 @@ pub fn all_allowed(line: &[u8]) -> bool
         i += 1;
     }
     good
+}
+
+// The refusal of a last line that lacks its terminator.
+pub fn broken_fault(line: &[u8]) -> u32
+    ensures { λ r. ⌜ r ≡ brokenFault (now (line .entry)) ⌝ }
+{
+    if !all_allowed(line) {
+        return 3;
+    }
+    4
 }

@@ -21,7 +21,7 @@ use Rattle.law.specs.Calls.{refusedAnswer, Leaves, Reads}
 use Rattle.law.proofs.Judges.{accepted-lawful}
 use Rattle.join.specs.Store.{Nine}
 use Rattle.join.specs.Kept.{Long}
-use Rattle.reader.specs.declared.CoreAnswer.{CoreAnswer}
+use Rattle.lines_read.specs.declared.CoreAnswer.{CoreAnswer}
 use Rattle.reader.specs.Core.{lentWith, CoreReads}
 use Rattle.listing.specs.Put.{Put}
 use Rattle.listing.specs.Listing.{six, listing}

@@ -21,8 +21,9 @@ use Rattle.law.proofs.ReadsOnce.{rooms-are, lent-enough}
 use Rattle.join.specs.Store.{Nine}
 use Rattle.join.specs.Kept.{Long, Zeroed}
 use Rattle.join.proofs.Cells.{holds-as, holds-then}
-use Rattle.reader.specs.declared.CoreAnswer.{CoreAnswer}
-use Rattle.reader.specs.Core.{noRecords, refusedCore, HoldNine, WithinNine, LinesLeave, LinesRead, lentWith, filledIn, CoreReads}
+use Rattle.lines_read.specs.declared.CoreAnswer.{CoreAnswer}
+use Rattle.lines_read.specs.Core.{noRecords, refusedCore, HoldNine, WithinNine, LinesLeave, LinesRead}
+use Rattle.reader.specs.Core.{lentWith, filledIn, CoreReads}
 
 -- by the answer's name
 pub core-as : {file : List ℕ} {b x : Nine} {n : ℕ} {r u : CoreAnswer} → r ≡ u → CoreReads file b n u x → CoreReads file b n r x

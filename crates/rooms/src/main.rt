@@ -4,7 +4,7 @@
 ghost use Prim.Native.Nat.{_≤_};
 use drafts::ROOM;
 use libc::STDOUT_FILENO;
-use reader::CoreAnswer;
+use lines_read::CoreAnswer;
 
 // What every cell holds before a reading. No cell that a reading wrote holds it.
 const MARK: u8 = 7;

@@ -15,12 +15,12 @@ use Rattle.law.proofs.Cut.{cut, endFor}
 use Rattle.join.specs.Run.{Way, on, stop, next, runAll}
 use Rattle.join.specs.Store.{Nine, State, state, stepLine}
 use Rattle.join.specs.Kept.{Long}
-use Rattle.lines.specs.Step.{BrokenAt, WholeAt}
+use Rattle.lines.specs.Step.{BrokenAt, WholeAt, brokenFault}
 use Rattle.checks.specs.Laws.{Indexed}
 use Rattle.steps.specs.declared.Counts.{Counts}
 use Rattle.steps.specs.declared.Stepped.{Stepped}
 use Rattle.steps.specs.Counts.{asCount, went, Small}
-use Rattle.runs.specs.Lined.{lineOf, ran, brokenFault}
+use Rattle.runs.specs.Lined.{lineOf, ran}
 
 -- tables as long as those
 pub record Alike (b t : Nine) : Type 0 where

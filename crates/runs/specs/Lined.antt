@@ -1,11 +1,10 @@
--- A line of the file that has its terminator, a last line that lacks it, and what the run over the lines leaves.
+-- A line of the file that has its terminator, and what the run over the lines leaves.
 use mathlib.Core.Bool.{cond}
 use mathlib.Core.Option.{some}
 use mathlib.Core.List.{List}
 use Prim.Native.Nat.{ℕ, _-_}
 use lib.Dec.{eqb}
-use Rattle.kit.specs.Lists.{all}
-use Rattle.law.specs.Lines.{allowed, Line, End}
+use Rattle.law.specs.Lines.{Line, End}
 use Rattle.join.specs.Run.{Way, on, stop}
 use Rattle.join.specs.Store.{Nine, State, state}
 use Rattle.steps.specs.Counts.{asCount}
@@ -13,10 +12,6 @@ use Rattle.runs.specs.declared.Ran.{Ran}
 
 abbrev pub lineOf : List ℕ → End → Line
 lineOf text end = record { text = text; end = some end }
-
--- a last line without its terminator
-abbrev pub brokenFault : List ℕ → ℕ
-brokenFault text = cond (all allowed text) 4 3
 
 -- what the lines left: the state after all of them, or the line that is refused, by what, and the state before it
 abbrev pub ran : Ran → Nine → Way State (ℕ × ℕ)

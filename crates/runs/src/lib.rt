@@ -12,7 +12,7 @@ ghost use Rattle.join.specs.Kept.{Long};
 ghost use Rattle.tables.specs.Lent.{lent, before, after};
 ghost use Rattle.checks.specs.Laws.{Indexed};
 ghost use Rattle.steps.specs.Counts.{asCount, went, Small};
-ghost use Rattle.runs.specs.Lined.{lineOf, ran, brokenFault};
+ghost use Rattle.runs.specs.Lined.{lineOf, ran};
 use checks::START_CELLS;
 use lines::Cursor;
 use lines::Step;
@@ -95,16 +95,6 @@ pub struct Ran {
     pub counts: Counts,
 }
 
-// The refusal of a last line that lacks its terminator.
-fn broken_fault(line: &[u8]) -> u32
-    ensures { λ r. ⌜ r ≡ brokenFault (now (line .entry)) ⌝ }
-{
-    if !lines::all_allowed(line) {
-        return 3;
-    }
-    4
-}
-
 // The lines of a file, one after the other.
 pub fn run(
     file: &[u8],
@@ -141,7 +131,7 @@ pub fn run(
             Step::Broken { from, to } => {
                 let line = &file[from..to];
                 return Ran {
-                    fault: broken_fault(line),
+                    fault: lines::broken_fault(line),
                     line: LineNumber(ln + 1),
                     counts: c,
                 };
@@ -178,4 +168,3 @@ pub fn run(
         }
     }
 }
-

@@ -42,9 +42,9 @@ use denote.Exit.{yes}
 use Rattle.types.specs.declared.Acceleration.{Acceleration}
 use Rattle.types.proofs.Acceleration as Acceleration-is
 use Rattle.types.proofs.Acceleration.Laws as Acceleration-laws
-use Rattle.reader.specs.declared.CoreAnswer.{CoreAnswer}
-use Rattle.reader.proofs.CoreAnswer as CoreAnswer-is
-use Rattle.reader.proofs.CoreAnswer.Laws as CoreAnswer-laws
+use Rattle.lines_read.specs.declared.CoreAnswer.{CoreAnswer}
+use Rattle.lines_read.proofs.CoreAnswer as CoreAnswer-is
+use Rattle.lines_read.proofs.CoreAnswer.Laws as CoreAnswer-laws
 use Rattle.types.specs.declared.Answer.{Answer}
 use Rattle.types.proofs.Answer as Answer-is
 use Rattle.types.proofs.Answer.Laws as Answer-laws

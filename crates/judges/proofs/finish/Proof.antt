@@ -1,4 +1,4 @@
--- `reader::finish` meets its contract. Assumes nothing.
+-- `judges::finish` meets its contract. Assumes nothing.
 use mathlib.Core.Path.{sym, subst}
 use Prim.Native.Nat.{ℕ, _≤_}
 use native.Mathlib.Omega.{arith}

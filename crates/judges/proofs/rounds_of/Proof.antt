@@ -1,4 +1,4 @@
--- `reader::rounds_of` meets its contract. Assumes nothing.
+-- `judges::rounds_of` meets its contract. Assumes nothing.
 use denote.Ref.{now}
 use borrow.Author.Needs.{needs}
 use Rattle.steps.specs.Counts.{asCount}

@@ -1,4 +1,4 @@
--- `reader::run` meets its contract. The loop's invariant: what is left of the run is the whole run. Assumes nothing.
+-- `runs::run` meets its contract. The loop's invariant: what is left of the run is the whole run. Assumes nothing.
 use mathlib.Core.Path.{_∙_}
 use Prim.Native.Nat.{_-_}
 use native.Mathlib.Omega.{arith}

@@ -1,4 +1,4 @@
--- `reader::step` meets its contract. Assumes nothing.
+-- `runs::step` meets its contract. Assumes nothing.
 use mathlib.Core.Path.{refl, sym, _∙_}
 use Prim.Native.Nat.{ℕ, _-_}
 use denote.Ref.{now}

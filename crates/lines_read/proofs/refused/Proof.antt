@@ -1,8 +1,8 @@
--- `reader::refused` meets its contract. Assumes nothing.
+-- `lines_read::refused` meets its contract. Assumes nothing.
 use mathlib.Core.Path.{refl}
 use Rattle.law.specs.Calls.{refusedAnswer}
-use Rattle.reader.proofs.refused.Statement.{statement}
-use Rattle.reader.proofs.refused.Tie as tie
+use Rattle.lines_read.proofs.refused.Statement.{statement}
+use Rattle.lines_read.proofs.refused.Tie as tie
 
 returns : tie.Need-returns
 unfolding refusedAnswer

@@ -44,8 +44,8 @@ use Rattle.runs.specs.Lined.{ran}
 use Rattle.judges.specs.declared.Finished.{Finished}
 use Rattle.judges.specs.Closing.{dash, zed, ClosedBy}
 use Rattle.judges.proofs.Judging.{verdict-numbered}
-use Rattle.reader.specs.declared.CoreAnswer.{CoreAnswer}
-use Rattle.reader.specs.Core.{refusedCore, acceptedCore, HoldNine, Within, WithinNine, LinesAccepted, LinesRefused, LinesRead}
+use Rattle.lines_read.specs.declared.CoreAnswer.{CoreAnswer}
+use Rattle.lines_read.specs.Core.{refusedCore, acceptedCore, HoldNine, Within, WithinNine, LinesAccepted, LinesRefused, LinesRead}
 
 -- by the answer's name
 pub read-as : {file : List ℕ} {b x : Nine} {r u : CoreAnswer} → r ≡ u → LinesRead file b u x → LinesRead file b r x

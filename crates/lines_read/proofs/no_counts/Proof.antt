@@ -1,8 +1,8 @@
--- `reader::no_counts` meets its contract. Assumes nothing.
+-- `lines_read::no_counts` meets its contract. Assumes nothing.
 use mathlib.Core.Path.{refl}
 use Rattle.law.specs.Scoring.{scoringOf}
-use Rattle.reader.proofs.no_counts.Statement.{statement}
-use Rattle.reader.proofs.no_counts.Tie as tie
+use Rattle.lines_read.proofs.no_counts.Statement.{statement}
+use Rattle.lines_read.proofs.no_counts.Tie as tie
 
 returns : tie.Need-returns
 unfolding scoringOf

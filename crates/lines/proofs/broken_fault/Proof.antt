@@ -1,11 +1,11 @@
--- `reader::broken_fault` meets its contract. Assumes nothing.
+-- `lines::broken_fault` meets its contract. Assumes nothing.
 use mathlib.Core.Path.{sym, ap, _∙_}
 use mathlib.Core.Bool.{Bool, cond}
 use Prim.Native.Nat.{ℕ}
 use borrow.Author.Tests.{not-true, not-false}
 use borrow.Author.Needs.{needs}
-use Rattle.runs.proofs.broken_fault.Statement.{statement}
-use Rattle.runs.proofs.broken_fault.Tie as tie
+use Rattle.lines.proofs.broken_fault.Statement.{statement}
+use Rattle.lines.proofs.broken_fault.Tie as tie
 
 all-allowed-requires : tie.Need-all-allowed-requires
 all-allowed-requires c κs = search needs

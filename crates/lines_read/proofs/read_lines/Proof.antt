@@ -1,4 +1,4 @@
--- `reader::read_lines` meets its contract. Assumes nothing.
+-- `lines_read::read_lines` meets its contract. Assumes nothing.
 use mathlib.Core.Path.{ap, _∙_}
 use mathlib.Core.Bool.{false}
 use native.Mathlib.Omega.{arith}
@@ -7,10 +7,10 @@ use Rattle.law.proofs.Cut.{cut}
 use Rattle.join.specs.Run.{runAll}
 use Rattle.join.specs.Store.{Count, state, stepLine}
 use Rattle.tables.specs.Lent.{nine}
-use Rattle.reader.proofs.Leaves.{read-as, none-indexed, none-small, line-refused, rounds-fit, values-fit, file-refused, file-accepted}
+use Rattle.lines_read.proofs.Leaves.{read-as, none-indexed, none-small, line-refused, rounds-fit, values-fit, file-refused, file-accepted}
 use borrow.Author.Needs.{needs}
-use Rattle.reader.proofs.read_lines.Statement.{statement}
-use Rattle.reader.proofs.read_lines.Tie as tie
+use Rattle.lines_read.proofs.read_lines.Statement.{statement}
+use Rattle.lines_read.proofs.read_lines.Tie as tie
 
 no-counts-requires : tie.Need-no-counts-requires
 no-counts-requires c κs = search needs
@@ -58,8 +58,9 @@ returns c =
     let t = nine (now (a .starts)) (now (a .points)) (now (a .ranks)) (now (a .kept)) (now (a .opponents)) (now (a .colours)) (now (a .results)) (now (a .text)) (now (a .lines)) in
     let r = c .before .before .before .before .before .before .before .before .before .before .before .before .before .before .before .before .before .before .before .before .before .before .run in
     let n = c .before .before .before .before .before .before .before .before .before .before .before .before .before .before .before .before .before .before .before .before .before .before .before .before .before .before .before .before .before .before .before .before .before .no-counts in
+    let x = nine (r .last .1 .1 .1 .0) (r .last .1 .1 .1 .1 .0) (r .last .1 .1 .1 .1 .1 .0) (r .last .1 .1 .1 .1 .1 .1 .0) (r .last .1 .1 .1 .1 .1 .1 .1 .0) (r .last .1 .1 .1 .1 .1 .1 .1 .1 .0) (r .last .1 .1 .1 .1 .1 .1 .1 .1 .1 .0) (r .last .1 .1 .1 .1 .1 .1 .1 .1 .1 .1 .0) (r .last .1 .1 .1 .1 .1 .1 .1 .1 .1 .1 .1 .0) in
     let did = r .ensures .0 ∙ ap (λ (k : Count). runAll stepLine (cut false (now (a .file))) 0 (state 0 k t)) (n .ensures) in
-    read-as (c .refused .ensures) (line-refused t (s .pre .1 .0) (s .pre .1 .1) (now (a .file)) (s .pre .0) (r .result) _ did (c .before .before .if1 .taken))
+    read-as (c .refused .ensures) (line-refused t (s .pre .1 .0) (s .pre .1 .1) (now (a .file)) (s .pre .0) (r .result) x did (c .before .before .if1 .taken))
 
 finish-requires : tie.Need-finish-requires
 finish-requires c κs =
@@ -68,6 +69,7 @@ finish-requires c κs =
     let t = nine (now (a .starts)) (now (a .points)) (now (a .ranks)) (now (a .kept)) (now (a .opponents)) (now (a .colours)) (now (a .results)) (now (a .text)) (now (a .lines)) in
     let r = c .before .before .before .before .before .before .before .before .before .before .before .before .before .before .before .before .before .before .before .before .before .before .before .before .before .before .before .before .run in
     let n = c .before .before .before .before .before .before .before .before .before .before .before .before .before .before .before .before .before .before .before .before .before .before .before .before .before .before .before .before .before .before .before .before .before .before .before .before .before .before .before .no-counts in
+    let x = nine (r .last .1 .1 .1 .0) (r .last .1 .1 .1 .1 .0) (r .last .1 .1 .1 .1 .1 .0) (r .last .1 .1 .1 .1 .1 .1 .0) (r .last .1 .1 .1 .1 .1 .1 .1 .0) (r .last .1 .1 .1 .1 .1 .1 .1 .1 .0) (r .last .1 .1 .1 .1 .1 .1 .1 .1 .1 .0) (r .last .1 .1 .1 .1 .1 .1 .1 .1 .1 .1 .0) (r .last .1 .1 .1 .1 .1 .1 .1 .1 .1 .1 .1 .0) in
     let did = r .ensures .0 ∙ ap (λ (k : Count). runAll stepLine (cut false (now (a .file))) 0 (state 0 k t)) (n .ensures) in
     let l = s .pre .1 .0 in
     let fault = c .before .before .before .before .before .before .before .before .if1 .left in (
@@ -83,8 +85,8 @@ finish-requires c κs =
       (
         let e = r .kept .1 .1 .1 .1 .0 in let h = l .points in omega arith,
         let e = r .kept .1 .1 .1 .1 .1 .1 .1 .1 .1 .1 .1 .0 in let h = l .lines in omega arith,
-        rounds-fit t l (s .pre .1 .1) (now (a .file)) (s .pre .0) (r .result) _ did fault,
-        values-fit t l (s .pre .1 .1) (now (a .file)) (s .pre .0) (r .result) _ did fault,
+        rounds-fit t l (s .pre .1 .1) (now (a .file)) (s .pre .0) (r .result) x did fault,
+        values-fit t l (s .pre .1 .1) (now (a .file)) (s .pre .0) (r .result) x did fault,
         r .ensures .2,
       ),
     )
@@ -126,9 +128,10 @@ returns-2 c =
     let t = nine (now (a .starts)) (now (a .points)) (now (a .ranks)) (now (a .kept)) (now (a .opponents)) (now (a .colours)) (now (a .results)) (now (a .text)) (now (a .lines)) in
     let r = c .before .before .before .before .before .before .before .before .before .before .before .before .before .before .before .before .before .before .before .before .before .before .before .before .before .before .before .before .before .before .before .before .before .before .before .before .before .before .run in
     let n = c .before .before .before .before .before .before .before .before .before .before .before .before .before .before .before .before .before .before .before .before .before .before .before .before .before .before .before .before .before .before .before .before .before .before .before .before .before .before .before .before .before .before .before .before .before .before .before .before .before .no-counts in
+    let x = nine (r .last .1 .1 .1 .0) (r .last .1 .1 .1 .1 .0) (r .last .1 .1 .1 .1 .1 .0) (r .last .1 .1 .1 .1 .1 .1 .0) (r .last .1 .1 .1 .1 .1 .1 .1 .0) (r .last .1 .1 .1 .1 .1 .1 .1 .1 .0) (r .last .1 .1 .1 .1 .1 .1 .1 .1 .1 .0) (r .last .1 .1 .1 .1 .1 .1 .1 .1 .1 .1 .0) (r .last .1 .1 .1 .1 .1 .1 .1 .1 .1 .1 .1 .0) in
     let did = r .ensures .0 ∙ ap (λ (k : Count). runAll stepLine (cut false (now (a .file))) 0 (state 0 k t)) (n .ensures) in
     let f = c .before .before .before .before .before .before .before .before .before .finish in
-    read-as (c .refused2 .ensures) (file-refused t (s .pre .1 .0) (s .pre .1 .1) (now (a .file)) (s .pre .0) (r .result) _ did (c .before .before .before .before .before .before .before .before .before .before .before .before .before .before .before .before .before .before .if1 .left) (f .result) _ _ (f .ensures) (c .before .before .if2 .taken))
+    read-as (c .refused2 .ensures) (file-refused t (s .pre .1 .0) (s .pre .1 .1) (now (a .file)) (s .pre .0) (r .result) x did (c .before .before .before .before .before .before .before .before .before .before .before .before .before .before .before .before .before .before .if1 .left) (f .result) (f .last .1 .1 .1 .1 .1 .0) (f .last .1 .1 .1 .1 .1 .1 .0) (f .ensures) (c .before .before .if2 .taken))
 
 accepted-requires : tie.Need-accepted-requires
 accepted-requires c κs =
@@ -169,9 +172,10 @@ returns-3 c =
     let t = nine (now (a .starts)) (now (a .points)) (now (a .ranks)) (now (a .kept)) (now (a .opponents)) (now (a .colours)) (now (a .results)) (now (a .text)) (now (a .lines)) in
     let r = c .before .before .before .before .before .before .before .before .before .before .before .before .before .before .before .before .before .before .before .before .before .before .before .before .before .before .before .before .before .before .before .before .before .before .before .before .before .run in
     let n = c .before .before .before .before .before .before .before .before .before .before .before .before .before .before .before .before .before .before .before .before .before .before .before .before .before .before .before .before .before .before .before .before .before .before .before .before .before .before .before .before .before .before .before .before .before .before .before .before .no-counts in
+    let x = nine (r .last .1 .1 .1 .0) (r .last .1 .1 .1 .1 .0) (r .last .1 .1 .1 .1 .1 .0) (r .last .1 .1 .1 .1 .1 .1 .0) (r .last .1 .1 .1 .1 .1 .1 .1 .0) (r .last .1 .1 .1 .1 .1 .1 .1 .1 .0) (r .last .1 .1 .1 .1 .1 .1 .1 .1 .1 .0) (r .last .1 .1 .1 .1 .1 .1 .1 .1 .1 .1 .0) (r .last .1 .1 .1 .1 .1 .1 .1 .1 .1 .1 .1 .0) in
     let did = r .ensures .0 ∙ ap (λ (k : Count). runAll stepLine (cut false (now (a .file))) 0 (state 0 k t)) (n .ensures) in
     let f = c .before .before .before .before .before .before .before .before .finish in
-    read-as (c .accepted .ensures) (file-accepted t (s .pre .1 .0) (s .pre .1 .1) (now (a .file)) (s .pre .0) (r .result) _ did (c .before .before .before .before .before .before .before .before .before .before .before .before .before .before .before .before .before .if1 .left) (f .result) _ _ (f .ensures) (c .before .if2 .left))
+    read-as (c .accepted .ensures) (file-accepted t (s .pre .1 .0) (s .pre .1 .1) (now (a .file)) (s .pre .0) (r .result) x did (c .before .before .before .before .before .before .before .before .before .before .before .before .before .before .before .before .before .if1 .left) (f .result) (f .last .1 .1 .1 .1 .1 .0) (f .last .1 .1 .1 .1 .1 .1 .0) (f .ensures) (c .before .if2 .left))
 
 pub read-lines-spec : {M : Type 1} → statement M
 read-lines-spec =
