@@ -1,6 +1,6 @@
 -- What a CR that was found, and the byte after it, say of the lines that are left. Assumes nothing.
 use mathlib.Core.Path.{_≡_, refl, sym, ap, _∙_}
-use mathlib.Core.Bool.{true, false}
+use mathlib.Core.Bool.{Bool, true, false, _&&_, not}
 use mathlib.Core.Option.{none}
 use mathlib.Core.List.{List, [], _∷_, _++_, append-nil}
 use Prim.Native.Nat.{ℕ, zero, suc, _+_, _-_, _≤_, _<_}
@@ -8,10 +8,14 @@ use native.Mathlib.Numerals.{add-one}
 use native.Mathlib.Omega.{arith}
 use lib.ListN.{length, getD, take, drop, take-append-drop, length-drop, drop-of-length-le}
 use lib.Seq.{drop-cons, drop-drop}
-use borrow.Author.Tests.{ne-eqb}
+use native.Mathlib.Decide.{decLt}
+use lib.Dec.{eqb}
+use borrow.Author.Tests.{eq-eqb, ne-eqb}
+use borrow.Author.Count.{below-more}
+use Rattle.kit.proofs.Bools.{and, clash}
 use Rattle.law.specs.Lines.{CR, LF, Line, hasNoCR, startsWithLF}
 use Rattle.law.proofs.Cut.{cut, endFor, cut-text, cut-last, cut-after}
-use Rattle.lines.specs.Step.{CRFrom, BrokenAt, WholeAt}
+use Rattle.lines.specs.Step.{NoCR, CRFrom, BrokenAt, WholeAt}
 
 -- ---- after a CR: an LF belongs to its terminator; another byte starts the next line; at the end of the file there is none
 after-lf : (file : List ℕ) (a : ℕ) → a < length file → getD file a 0 ≡ LF → cut true (drop a file) ≡ cut false (drop (suc a) file)
@@ -22,6 +26,19 @@ after-other file a h e = cut-after (drop a file) (ap startsWithLF (drop-cons fil
 
 after-end : (file : List ℕ) (a : ℕ) → length file ≤ a → cut true (drop a file) ≡ cut false (drop a file)
 after-end file a h = rw (drop-of-length-le file h) refl
+
+-- ---- one byte more without a CR, and one block
+pub no-cr-more : (file : List ℕ) (from i : ℕ) (good : Bool) → (good ≡ true → NoCR file from i) → good && not (eqb (getD file i 0) CR) ≡ true → NoCR file from (i + 1)
+no-cr-more file from i good h e =
+    let b = and good (not (eqb (getD file i 0) CR)) e in
+    below-more (λ k. from ≤ k → getD file k 0 ≡ CR → ⊥) i (h (b .0)) (λ _ q. clash (sym (ap not (eq-eqb (getD file i 0) CR q)) ∙ b .1))
+
+pub no-cr-join : (file : List ℕ) (a b c : ℕ) → NoCR file a b → NoCR file b c → NoCR file a c
+no-cr-join file a b c h g k l m e = go (decLt k b)
+  where
+    go : Dec (k < b) → ⊥
+    go (yes p) = h k p m e
+    go (no p) = g k l (omega arith) e
 
 -- ---- n bytes without a CR
 no-cr : (file : List ℕ) (n a : ℕ) → a + n ≤ length file → ((k : ℕ) → k < a + n → a ≤ k → getD file k 0 ≡ CR → ⊥) → hasNoCR (take n (drop a file)) ≡ true

@@ -11,11 +11,15 @@ use Rattle.law.proofs.Cut.{cut, endFor}
 use Rattle.lines.specs.declared.Step.{Step}
 use Rattle.lines.specs.declared.Step.the-variants.{Whole, Broken, Done}
 
+-- no CR from at up to r
+abbrev pub NoCR : List ℕ → ℕ → ℕ → Type 0
+NoCR file at r = (k : ℕ) → k < r → at ≤ k → getD file k 0 ≡ CR → ⊥
+
 -- r is the place of the first CR from at on, or the length
 pub record CRFrom (file : List ℕ) (at r : ℕ) : Type 0 where
   pub after : at ≤ r
   pub within : r ≤ length file
-  pub none-before : (k : ℕ) → k < r → at ≤ k → getD file k 0 ≡ CR → ⊥
+  pub none-before : NoCR file at r
   pub there : r < length file → getD file r 0 ≡ CR
 
 -- a last line, without its terminator

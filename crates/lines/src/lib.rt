@@ -2,16 +2,20 @@
 // what is left and the cursor after it. Promised: the lines found are those that the statement cuts the file into, with their terminators; a line passes
 // exactly where each of its bytes is allowed.
 ghost use mathlib.Core.Path.{_≡_};
+ghost use mathlib.Core.Bool.{true};
 ghost use Prim.Native.Nat.{_≤_};
 ghost use lib.ListN.{length};
 ghost use Rattle.kit.specs.Lists.{all};
 ghost use Rattle.law.specs.Sizes.{mostFile};
 ghost use Rattle.law.specs.Lines.{allowed};
-ghost use Rattle.lines.specs.Step.{CRFrom, StepMeans, brokenFault};
+ghost use Rattle.lines.specs.Step.{NoCR, CRFrom, StepMeans, brokenFault};
 
 const CR: u8 = 13;
 
 const LF: u8 = 10;
+
+// How many bytes are tested for a CR at once.
+const BLOCK: usize = 32;
 
 // The place where the next line starts.
 pub struct Cursor {
@@ -32,12 +36,41 @@ pub enum Step {
     Done,
 }
 
+// Whether none of the bytes from a place to another is a CR. The loop has no exit of its own, so that it can be compiled to take many bytes at a time.
+fn no_cr(file: &[u8], from: usize, to: usize) -> bool
+    requires { ⌜ (from ≤ to) × (to ≤ length (now file)) ⌝ }
+    ensures { λ r. ⌜ (r ≡ true → NoCR (now (file .entry)) from to) ⌝ }
+{
+    let mut good = true;
+    let mut i = from;
+    while i < to {
+        good = good & (file[i] != CR);
+        i += 1;
+    }
+    good
+}
+
+// Past whole blocks without a CR.
+fn past_blocks(file: &[u8], at: usize) -> usize
+    requires { ⌜ at ≤ length (now file) ⌝ }
+    ensures { λ r. ⌜ (at ≤ r) × (r ≤ length (now (file .entry))) × NoCR (now (file .entry)) at r ⌝ }
+{
+    let mut i = at;
+    while BLOCK <= file.len() - i {
+        if !no_cr(file, i, i + BLOCK) {
+            return i;
+        }
+        i += BLOCK;
+    }
+    i
+}
+
 // The place of the first CR from a place on, or the file's length.
 pub fn cr_from(file: &[u8], at: usize) -> usize
     requires { ⌜ at ≤ length (now file) ⌝ }
     ensures { λ r. ⌜ CRFrom (now (file .entry)) at r ⌝ }
 {
-    let mut i = at;
+    let mut i = past_blocks(file, at);
     while i < file.len() {
         if file[i] == CR {
             return i;

@@ -1,22 +1,24 @@
 -- `lines::cr_from` meets its contract. The loop's invariant: from `at` up to i there is no CR. Assumes nothing.
-use mathlib.Core.Path.{_≡_}
-use Prim.Native.Nat.{ℕ, _≤_, _<_, _-_}
+use Prim.Native.Nat.{_≤_, _-_}
 use native.Mathlib.Omega.{arith}
-use lib.ListN.{length, getD}
+use lib.ListN.{length}
 use borrow.Author.Needs.{needs}
 use borrow.Author.Count.{below-more}
-use Rattle.law.specs.Lines.{CR}
+use Rattle.lines.specs.Step.{NoCR}
 use Rattle.lines.proofs.cr_from.Statement.{statement}
 use Rattle.lines.proofs.cr_from.Tie as tie
 
 abbrev Inv-loop : tie.InvT-loop
-Inv-loop file at i₀ i = (at ≤ i) × (i ≤ length file) × ((k : ℕ) → k < i → at ≤ k → getD file k 0 ≡ CR → ⊥)
+Inv-loop file at i₀ i = (at ≤ i) × (i ≤ length file) × NoCR file at i
 
 abbrev μ-loop : tie.MeasureT-loop
 μ-loop file at i₀ i = length file - i
 
+past-blocks-requires : tie.Need-past-blocks-requires Inv-loop μ-loop
+past-blocks-requires c κs = search needs
+
 loop-holds : tie.Need-loop-holds Inv-loop μ-loop
-loop-holds c = (search needs, search needs, λ k l m e. omega arith)
+loop-holds c = c .past-blocks .ensures
 
 shared-slice-read-if1 : tie.Need-shared-slice-read-if1 Inv-loop μ-loop
 shared-slice-read-if1 c = search needs
@@ -46,6 +48,7 @@ cr-from-spec =
     (tie.spec
     Inv-loop
     μ-loop
+    past-blocks-requires
     loop-holds
     shared-slice-read-if1
     returns
