@@ -167,7 +167,7 @@ pub struct Row {
     pub used: [bool; 20],
 }
 
-fn is_passed(line: &[u8]) -> bool
+pub fn is_passed(line: &[u8]) -> bool
     ensures { λ r. ⌜ r ≡ isPassed (now (line .entry)) ⌝ }
 {
     if fields::blank_from(line, 0) {

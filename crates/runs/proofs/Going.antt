@@ -20,7 +20,8 @@ use Rattle.checks.specs.Laws.{Indexed}
 use Rattle.steps.specs.declared.Counts.{Counts}
 use Rattle.steps.specs.declared.Stepped.{Stepped}
 use Rattle.steps.specs.Counts.{asCount, went, Small}
-use Rattle.runs.specs.Lined.{lineOf, ran}
+use Rattle.runs.specs.Lined.{lineOf, Skipped, ran}
+use Rattle.runs.proofs.Sound.{passed-on}
 
 -- tables as long as those
 pub record Alike (b t : Nine) : Type 0 where
@@ -149,3 +150,12 @@ module _ {file : List ℕ} {b : Nine} {nothing : Counts} {t : Nine} {index : Lis
             → runAll stepLine (cut false (drop after file)) (ln + 1) (state (ln + 1) (asCount (r .counts)) x) ≡ whole
         go true p q = q
         go false p q = clash p
+
+  -- a line that is passed over leaves all as it was
+  pub going-skip : {from to after : ℕ} → WholeAt file at from to after → Skipped (take (to - from) (drop from file)) → Going file b nothing t index c after (ln + 1)
+  going-skip {from} {to} m s =
+      going-next m (record { fault = 0; counts = c }) t did refl
+      (record { starts = refl; points = refl; ranks = refl; kept = refl; opponents = refl; colours = refl; results = refl; text = refl; lines = refl }) (g .indexed) (g .room)
+    where
+      did : (n : ℕ) (end : End) → ln + 1 ≡ n + 1 → went n (record { fault = 0; counts = c }) t ≡ stepLine (lineOf (take (to - from) (drop from file)) end) (state n (asCount c) t)
+      did n end _ = passed-on (take (to - from) (drop from file)) end n (asCount c) t s

@@ -2,16 +2,20 @@
 use mathlib.Core.Path.{_≡_, refl, sym, ap, _∙_}
 use mathlib.Core.Bool.{true, false, not}
 use mathlib.Core.List.{List}
-use Prim.Native.Nat.{ℕ, _≤_, _<_}
+use Prim.Native.Nat.{ℕ, _+_, _≤_, _<_}
 use lib.ListN.{length}
 use borrow.Author.Tests.{lt-ltb, le-ltb}
 use Rattle.kit.specs.Lists.{all}
 use Rattle.law.specs.Sizes.{mostLine}
 use Rattle.law.specs.Lines.{allowed, End}
-use Rattle.law.specs.Items.{Kind, kindOf}
+use Rattle.law.specs.Items.{Kind, passed-over, isPassed, kindOf}
 use Rattle.join.specs.Run.{Way, on, stop}
-use Rattle.join.specs.Store.{State, stepRow, stepLine}
-use Rattle.runs.specs.Lined.{lineOf}
+use Rattle.join.specs.Store.{Nine, Count, State, state, stepRow, stepLine}
+use Rattle.runs.specs.Lined.{lineOf, Skipped}
+
+pub passed-kind : (text : List ℕ) → isPassed text ≡ true → kindOf text ≡ passed-over
+unfolding kindOf
+passed-kind text e = rw e refl
 
 module _ (text : List ℕ) (end : End) (s : State) where
   pub bad-byte : all allowed text ≡ false → stop 3 s ≡ stepLine (lineOf text end) s
@@ -26,3 +30,7 @@ module _ (text : List ℕ) (end : End) (s : State) where
     pub by-kind : (k : Kind) → length text ≤ mostLine → kindOf text ≡ k → stepRow k text s ≡ stepLine (lineOf text end) s
     unfolding stepLine
     by-kind k l q = rw (e, le-ltb mostLine (length text) l, q) refl
+
+pub passed-on : (text : List ℕ) (end : End) (n : ℕ) (c : Count) (t : Nine) → Skipped text → on (state (n + 1) c t) ≡ stepLine (lineOf text end) (state n c t)
+unfolding stepRow
+passed-on text end n c t s = by-kind text end (state n c t) (s .clean) passed-over (s .short) (s .passed)

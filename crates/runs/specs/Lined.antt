@@ -1,10 +1,15 @@
 -- A line of the file that has its terminator, and what the run over the lines leaves.
-use mathlib.Core.Bool.{cond}
+use mathlib.Core.Path.{_≡_}
+use mathlib.Core.Bool.{cond, true}
 use mathlib.Core.Option.{some}
 use mathlib.Core.List.{List}
-use Prim.Native.Nat.{ℕ, _-_}
+use Prim.Native.Nat.{ℕ, _-_, _≤_}
 use lib.Dec.{eqb}
-use Rattle.law.specs.Lines.{Line, End}
+use lib.ListN.{length}
+use Rattle.kit.specs.Lists.{all}
+use Rattle.law.specs.Sizes.{mostLine}
+use Rattle.law.specs.Lines.{allowed, Line, End}
+use Rattle.law.specs.Items.{kindOf, passed-over}
 use Rattle.join.specs.Run.{Way, on, stop}
 use Rattle.join.specs.Store.{Nine, State, state}
 use Rattle.steps.specs.Counts.{asCount}
@@ -12,6 +17,12 @@ use Rattle.runs.specs.declared.Ran.{Ran}
 
 abbrev pub lineOf : List ℕ → End → Line
 lineOf text end = record { text = text; end = some end }
+
+-- a line that is passed over, and that no refusal is due for
+pub record Skipped (text : List ℕ) : Type 0 where
+  pub clean : all allowed text ≡ true
+  pub short : length text ≤ mostLine
+  pub passed : kindOf text ≡ passed-over
 
 -- what the lines left: the state after all of them, or the line that is refused, by what, and the state before it
 abbrev pub ran : Ran → Nine → Way State (ℕ × ℕ)
