@@ -20,6 +20,11 @@ asNumber (law.value n) = number.Value n
 asNumber law.none-there = number.Blank
 asNumber law.bad = number.Bad
 
+-- a number that was found
+abbrev pub orBad : Option ℕ → Number
+orBad (some n) = number.Value n
+orBad none = number.Bad
+
 abbrev pub asPoints : Option ℕ → Points
 asPoints (some n) = points.Tenths n
 asPoints none = points.Bad

@@ -4,11 +4,12 @@ ghost use mathlib.Core.Path.{_≡_};
 ghost use mathlib.Core.List.{[], _∷_};
 ghost use Prim.Native.Nat.{_+_, _-_, _≤_, _<_};
 ghost use lib.ListN.{length, getD, drop};
-ghost use Rattle.kit.specs.Lists.{all, same};
+ghost use Rattle.kit.specs.Lists.{all, between, same};
+ghost use Rattle.kit.specs.Decides.{keep};
 ghost use Rattle.law.specs.Columns.{blank, isBlank, cells};
 ghost use Rattle.law.specs.Fields.{isDigit, digitValue, isTens};
-ghost use Rattle.law.proofs.FieldsRead.{numberOf, digitsFrom, arePoints, pointsOf, leadingFrom, leadingOf, trim};
-ghost use Rattle.fields.specs.Fields.{asNumber, asPoints, asLeading};
+ghost use Rattle.law.proofs.FieldsRead.{numberOf, theNumber, numberOr0, digitsFrom, arePoints, pointsOf, leadingFrom, leadingOf, trim};
+ghost use Rattle.fields.specs.Fields.{asNumber, orBad, asPoints, asLeading};
 
 // What a number field holds.
 pub enum Number {
@@ -86,6 +87,39 @@ pub fn number_at(line: &[u8], from: usize, width: usize) -> Number
         i += 1;
     }
     Number::Blank
+}
+
+// A number field of four columns or blank, which is 0.
+pub fn number_or_blank(line: &[u8], from: usize) -> Number
+    requires { ⌜ from ≤ 65535 ⌝ }
+    ensures { λ r. ⌜ r ≡ orBad (numberOr0 (numberOf (cells (now (line .entry)) from 4))) ⌝ }
+{
+    let n = number_at(line, from, 4);
+    match n {
+        Number::Blank => Number::Value(0),
+        _ => n,
+    }
+}
+
+// Whether a number is 1 to the most that there may be.
+pub fn is_counted(n: u32, most: u32) -> bool
+    ensures { λ r. ⌜ r ≡ between 1 most n ⌝ }
+{
+    1 <= n && n <= most
+}
+
+// A number field of four columns whose number is 1 to the most that there may be.
+pub fn counted_at(line: &[u8], from: usize, most: u32) -> Number
+    requires { ⌜ from ≤ 65535 ⌝ }
+    ensures { λ r. ⌜ r ≡ orBad (keep (between 1 most) (theNumber (numberOf (cells (now (line .entry)) from 4)))) ⌝ }
+{
+    let Number::Value(n) = number_at(line, from, 4) else {
+        return Number::Bad;
+    };
+    if !is_counted(n, most) {
+        return Number::Bad;
+    }
+    Number::Value(n)
 }
 
 fn is_tens(c: u8) -> bool

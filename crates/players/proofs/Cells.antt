@@ -18,8 +18,8 @@ use Rattle.law.specs.Entries.{noEntry}
 use Rattle.law.specs.Tables.{cellOf}
 use Rattle.join.specs.Grid.{putRow}
 use Rattle.join.specs.Store.{Nine, storePlayer, rawCell, rawCells}
-use Rattle.records.specs.Players.{asRow, idsOf, coloursOf, resultsOf, usedOf}
-use Rattle.records.specs.declared.Row.{Row}
+use Rattle.rows.specs.Rows.{asRow, idsOf, coloursOf, resultsOf, usedOf}
+use Rattle.rows.specs.declared.Row.{Row}
 use Rattle.tables.specs.Lent.{nine}
 use Rattle.players.specs.Stored.{rawId, rawLetter}
 

@@ -15,8 +15,8 @@ use Rattle.law.specs.Players.{PlayerLine}
 use Rattle.law.proofs.RecordsRead.{playerOf, player-line}
 use Rattle.join.specs.Run.{Way, on, stop}
 use Rattle.join.specs.Store.{Nine, Count, State, state, placeOf, storePlayer, countPlayer, stepPlayer}
-use Rattle.records.specs.declared.Row.{Row}
-use Rattle.records.specs.Players.{asRow}
+use Rattle.rows.specs.declared.Row.{Row}
+use Rattle.rows.specs.Rows.{asRow}
 use Rattle.checks.specs.declared.Placed.{Placed}
 use Rattle.checks.specs.declared.Placed.the-variants.{At, Nobody}
 use Rattle.checks.specs.Index.{asPlaced}

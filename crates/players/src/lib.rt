@@ -10,14 +10,14 @@ ghost use Rattle.law.specs.Sizes.{mostPlayers, mostRounds};
 ghost use Rattle.law.specs.Players.{PlayerLine};
 ghost use Rattle.law.proofs.RecordsRead.{playerOf};
 ghost use Rattle.join.specs.Store.{state, storePlayer, countPlayer, stepPlayer};
-ghost use Rattle.records.specs.Players.{asRow};
+ghost use Rattle.rows.specs.Rows.{asRow};
 ghost use Rattle.tables.specs.Lent.{nine};
 ghost use Rattle.checks.specs.Laws.{Indexed};
 ghost use Rattle.steps.specs.Counts.{asCount, went};
 ghost use Rattle.players.specs.Stored.{rawId, rawLetter, LongEight};
 use checks::Placed;
 use checks::START_CELLS;
-use records::Row;
+use rows::Row;
 use steps::Counts;
 use steps::Stepped;
 use tables::MOST_ROUNDS;
@@ -144,7 +144,7 @@ pub fn step_player(
     requires { ⌜ Indexed (now starts) (c .players) (now index) ⌝ }
     ensures { λ r. ⌜ ((ln : ℕ) (text : List ℕ) → number .0 ≡ ln + 1 → went ln r (nine (now (starts .exit)) (now (points .exit)) (now (ranks .exit)) (now (kept .exit)) (now (opponents .exit)) (now (colours .exit)) (now (results .exit)) text (now (lines .exit))) ≡ stepPlayer (playerOf (now (line .entry))) (state ln (asCount c) (nine (now (starts .entry)) (now (points .entry)) (now (ranks .entry)) (now (kept .entry)) (now (opponents .entry)) (now (colours .entry)) (now (results .entry)) text (now (lines .entry))))) × Indexed (now (starts .exit)) (r .counts .players) (now (index .exit)) ⌝ }
 {
-    let row = records::player_of(line);
+    let row = rows::player_of(line);
     if !row.good {
         return Stepped {
             fault: 7,

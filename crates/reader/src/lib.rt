@@ -24,7 +24,7 @@ use checks::START_CELLS;
 use lines::Cursor;
 use lines::Step;
 use records::Kind;
-use records::Scoring;
+use scorings::Scoring;
 use steps::ACCELERATIONS;
 use steps::Counts;
 use steps::Stepped;

@@ -6,23 +6,19 @@ use mathlib.Core.List.{List}
 use Prim.Native.Nat.{ℕ}
 use lib.ListN.{length, take}
 use Rattle.kit.specs.Decides.{Decides}
-use Rattle.kit.proofs.Decided.{refused, refuses, when-inv}
+use Rattle.kit.proofs.Decided.{refused, when-inv}
 use Rattle.types.specs.declared.Acceleration.{Acceleration}
 use Rattle.law.specs.Columns.{isBlank, col, afterCode}
 use Rattle.law.specs.Text.{saysName, SpellsText}
 use Rattle.law.proofs.FieldsRead.{trim}
-use Rattle.law.proofs.RecordsRead.{textOf, text-line, roundsOfRow, rounds-line, colourOf, colour-line, givenOf, scoring-line, accelerationOf, acceleration-line, playerOf, player-line}
+use Rattle.law.proofs.RecordsRead.{textOf, text-line, roundsOfRow, rounds-line, colourOf, colour-line, accelerationOf, acceleration-line}
 use Rattle.fields.proofs.Trims.{trim-take}
 use Rattle.records.specs.declared.Text.{Text}
 use Rattle.records.specs.declared.Rounds.{Rounds}
 use Rattle.records.specs.declared.Initial.{Initial}
 use Rattle.records.specs.declared.Accelerated.{Accelerated}
-use Rattle.records.specs.declared.Scored.{Scored}
-use Rattle.records.specs.declared.Row.{Row}
 use Rattle.records.specs.Records.{asText, asRounds, asInitial, asAccelerated}
-use Rattle.records.specs.Scoring.{asScored}
-use Rattle.records.specs.Players.{asRow}
-use Rattle.records.specs.Means.{TextMeans, RoundsMeans, InitialMeans, AcceleratedMeans, ScoredMeans, RowMeans}
+use Rattle.records.specs.Means.{TextMeans, RoundsMeans, InitialMeans, AcceleratedMeans}
 
 -- an answer by cases: what it means of something spelled and of nothing spelled
 module _ {A R : Type 0} {S : List ℕ → A → Type 0} {f : List ℕ → Option A} (d : Decides S f) (answer : Option A → R) (Means : List ℕ → R → Type 0) where
@@ -50,11 +46,3 @@ colour-means row r e = means colour-line asInitial InitialMeans row r e (λ a p 
 
 pub acceleration-means : (row : List ℕ) (r : Accelerated) → r ≡ asAccelerated (accelerationOf row) → AcceleratedMeans row r
 acceleration-means row r e = means acceleration-line asAccelerated AcceleratedMeans row r e (λ a p s. s) (λ n. n)
-
-pub scoring-means : (row : List ℕ) (r : Scored) → r ≡ asScored (givenOf row) → ScoredMeans row r
-scoring-means row r e =
-    record { spelled = λ a s. e ∙ ap asScored (scoring-line .complete row a s); not-spelled = λ n. e ∙ ap asScored (refuses scoring-line row n) }
-
-pub player-means : (row : List ℕ) (r : Row) → r ≡ asRow (playerOf row) → RowMeans row r
-player-means row r e =
-    record { spelled = λ a s. e ∙ ap asRow (player-line .complete row a s); not-spelled = λ n. e ∙ ap asRow (refuses player-line row n) }

@@ -1,4 +1,2 @@
 pub mod Records
-pub mod Scoring
-pub mod Players
 pub mod Means

@@ -1,15 +1,11 @@
--- What each answer of a record reader says of the line, in the statement's terms. Bad, and not good, is refusal 7: the line spells no such record.
-use mathlib.Core.Path.{_≡_}
-use mathlib.Core.Option.{none, some}
+-- What each answer of a record reader says of the line, in the statement's terms. Bad is refusal 7: the line spells no such record.
 use mathlib.Core.List.{List}
 use Prim.Native.Nat.{ℕ}
 use lib.ListN.{take}
 use Rattle.types.specs.declared.Acceleration.{Acceleration}
 use Rattle.law.specs.Text.{SpellsText}
 use Rattle.law.specs.Heads.{SpellsRounds, SpellsColour}
-use Rattle.law.specs.Scoring.{SpellsScoring}
 use Rattle.law.specs.Accelerations.{SpellsAcceleration}
-use Rattle.law.specs.Players.{PlayerLine, SpellsPlayer}
 use Rattle.records.specs.declared.Text.{Text}
 use Rattle.records.specs.declared.Text.the-variants as text
 use Rattle.records.specs.declared.Rounds.{Rounds}
@@ -18,10 +14,6 @@ use Rattle.records.specs.declared.Initial.{Initial}
 use Rattle.records.specs.declared.Initial.the-variants as initial
 use Rattle.records.specs.declared.Accelerated.{Accelerated}
 use Rattle.records.specs.declared.Accelerated.the-variants as accelerated
-use Rattle.records.specs.declared.Scored.{Scored}
-use Rattle.records.specs.declared.Row.{Row}
-use Rattle.records.specs.Scoring.{asScored}
-use Rattle.records.specs.Players.{asRow}
 
 -- the kept bytes are the line's first
 abbrev pub TextMeans : List ℕ → Text → Type 0
@@ -39,11 +31,3 @@ InitialMeans row initial.Bad = (c : ℕ) → SpellsColour row c → ⊥
 abbrev pub AcceleratedMeans : List ℕ → Accelerated → Type 0
 AcceleratedMeans row (accelerated.Record a) = SpellsAcceleration row a
 AcceleratedMeans row accelerated.Bad = (a : Acceleration) → SpellsAcceleration row a → ⊥
-
-pub record ScoredMeans (row : List ℕ) (r : Scored) : Type 0 where
-  pub spelled : (given : List (ℕ × ℕ)) → SpellsScoring row given → r ≡ asScored (some given)
-  pub not-spelled : ((given : List (ℕ × ℕ)) → SpellsScoring row given → ⊥) → r ≡ asScored none
-
-pub record RowMeans (row : List ℕ) (r : Row) : Type 0 where
-  pub spelled : (p : PlayerLine) → SpellsPlayer row p → r ≡ asRow (some p)
-  pub not-spelled : ((p : PlayerLine) → SpellsPlayer row p → ⊥) → r ≡ asRow none

@@ -14,12 +14,12 @@ use Rattle.law.specs.Columns.{blank}
 use Rattle.law.specs.Text.{Trimmed}
 use Rattle.law.specs.Scoring.{values, scoringOf}
 use Rattle.law.proofs.RecordsRead.{textOf, text-line}
-use Rattle.records.specs.declared.Scored.{Scored}
+use Rattle.scorings.specs.declared.Scored.{Scored}
 use Rattle.records.specs.declared.Text.the-variants as text
 use Rattle.records.specs.declared.Rounds.the-variants as rounds
 use Rattle.records.specs.declared.Initial.the-variants as initial
 use Rattle.records.specs.declared.Accelerated.the-variants as accelerated
-use Rattle.records.specs.Scoring.{asScored}
+use Rattle.scorings.specs.Scoring.{asScored}
 use Rattle.records.specs.Records.{asText, asRounds, asInitial, asAccelerated}
 
 -- a kept text line is the first n bytes of its line

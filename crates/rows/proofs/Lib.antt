@@ -1,0 +1,3 @@
+pub mod PlayerRounds
+pub mod PlayerLines
+pub mod Means

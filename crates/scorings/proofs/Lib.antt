@@ -1,0 +1,2 @@
+pub mod ScoringSlots
+pub mod Means
