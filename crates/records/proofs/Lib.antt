@@ -1,4 +1,4 @@
 pub mod Codes
+pub mod Told
 pub mod Heads
 pub mod Accelerations
-pub mod Means

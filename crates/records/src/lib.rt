@@ -9,14 +9,17 @@ ghost use mathlib.Core.List.{[], _∷_};
 ghost use Prim.Native.Nat.{_≤_};
 ghost use mathlib.Core.Bool.{_||_};
 ghost use lib.Dec.{eqb};
+ghost use lib.ListN.{length};
 ghost use Rattle.kit.specs.Lists.{among, between, isOneOf};
+ghost use Rattle.kit.specs.Decides.{to};
 ghost use Rattle.law.specs.Columns.{elseBlank, afterCode, part, codeField};
 ghost use Rattle.law.specs.Text.{textCodes, saysName};
 ghost use Rattle.law.specs.Heads.{initialColours};
 ghost use Rattle.law.specs.Accelerations.{isAcceleration, accelerationFields};
 ghost use Rattle.law.specs.Items.{kindOf, isPassed};
 ghost use Rattle.law.proofs.RecordsRead.{textOf, roundsOfRow, colourOf, accelerationOf};
-ghost use Rattle.records.specs.Records.{asKind, asText, asRounds, asInitial, spanIn, asSpan, asAccelerated};
+ghost use Rattle.fields.specs.Said.{orBadField};
+ghost use Rattle.records.specs.Records.{kindSays, orNotListed, textSays, roundsSays, initialSays, spanIn, spanSays, acceleratedSays};
 
 const MOST_ROUNDS: u32 = 20;
 
@@ -113,7 +116,7 @@ fn is_passed(line: &[u8]) -> bool
 }
 
 pub fn kind_of(line: &[u8]) -> Kind
-    ensures { λ r. ⌜ r ≡ asKind (kindOf (now (line .entry))) ⌝ }
+    ensures { λ r. ⌜ kindSays r ≡ orNotListed (kindOf (now (line .entry))) ⌝ }
 {
     if is_passed(line) {
         return Kind::PassedOver;
@@ -150,7 +153,7 @@ fn says_name(line: &[u8]) -> bool
 }
 
 pub fn text_of(line: &[u8]) -> Text
-    ensures { λ r. ⌜ r ≡ asText (textOf (now (line .entry))) ⌝ }
+    ensures { λ r. ⌜ textSays r ≡ orBadField (to length (textOf (now (line .entry)))) ⌝ }
 {
     if fields::column(line, 3) != b' ' {
         return Text::Bad;
@@ -173,7 +176,7 @@ fn blank_but(line: &[u8], first: usize, last: usize) -> bool
 }
 
 pub fn rounds_of(line: &[u8]) -> Rounds
-    ensures { λ r. ⌜ r ≡ asRounds (roundsOfRow (now (line .entry))) ⌝ }
+    ensures { λ r. ⌜ roundsSays r ≡ orBadField (roundsOfRow (now (line .entry))) ⌝ }
 {
     if !blank_but(line, 5, 7) {
         return Rounds::Bad;
@@ -197,7 +200,7 @@ pub fn is_initial(c: u8) -> bool
 }
 
 pub fn colour_of(line: &[u8]) -> Initial
-    ensures { λ r. ⌜ r ≡ asInitial (colourOf (now (line .entry))) ⌝ }
+    ensures { λ r. ⌜ initialSays r ≡ orBadField (colourOf (now (line .entry))) ⌝ }
 {
     let c = fields::column(line, 4);
     if !is_initial(c) {
@@ -258,7 +261,7 @@ fn acceleration_else_blank(line: &[u8]) -> bool
 // Two number fields of one width with a column between them.
 fn span_at(line: &[u8], from: usize, width: usize) -> Span
     requires { ⌜ (from ≤ 65525) × (width ≤ 9) ⌝ }
-    ensures { λ r. ⌜ r ≡ asSpan (spanIn (now (line .entry)) from width) ⌝ }
+    ensures { λ r. ⌜ spanSays r ≡ orBadField (spanIn (now (line .entry)) from width) ⌝ }
 {
     let Number::Value(first) = fields::number_at(line, from, width) else {
         return Span::Bad;
@@ -270,7 +273,7 @@ fn span_at(line: &[u8], from: usize, width: usize) -> Span
 }
 
 pub fn acceleration_of(line: &[u8]) -> Accelerated
-    ensures { λ r. ⌜ r ≡ asAccelerated (accelerationOf (now (line .entry))) ⌝ }
+    ensures { λ r. ⌜ acceleratedSays r ≡ orBadField (accelerationOf (now (line .entry))) ⌝ }
 {
     if !acceleration_else_blank(line) {
         return Accelerated::Bad;

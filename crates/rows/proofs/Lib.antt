@@ -1,3 +1,2 @@
 pub mod PlayerRounds
 pub mod PlayerLines
-pub mod Means

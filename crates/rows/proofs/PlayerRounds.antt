@@ -14,25 +14,12 @@ use Rattle.law.specs.Columns.{blank, isBlank, cells, col, part, column, elseBla
 use Rattle.law.specs.Players.{Slot, idField, entryColourColumn, resultColumn, roundFields, slotColours, slotResults, capital}
 use Rattle.law.proofs.FieldsRead as law
 use Rattle.law.proofs.RecordsRead.{isUsed, slotOf, slotsOf}
-use Rattle.rows.specs.declared.Slot.the-variants as slot
-use Rattle.rows.specs.Rows.{asSlot, asSlots, idsOf, coloursOf, resultsOf, usedOf}
+use Rattle.fields.proofs.Cases.{standing, is-standing}
+use Rattle.rows.specs.declared.Slots.{Slots}
+use Rattle.rows.specs.Rows.{noSlots, theSlots, SlotsSay, idsOf, coloursOf, resultsOf, usedOf}
 
--- ---- from an answer back
 abbrev slotFrom : ℕ → ℕ → ℕ → Bool → Slot
 slotFrom i c r u = record { id = i; colour = c; result = r; used = u }
-
-pub slot-there : (o : Option Slot) (i c r : ℕ) (u : Bool) → asSlot o ≡ slot.Read i c r u → o ≡ some (slotFrom i c r u)
-slot-there (some s) i c r u e =
-    let p : s .id ≡ i = cc in
-    let q : s .colour ≡ c = cc in
-    let v : s .result ≡ r = cc in
-    let w : s .used ≡ u = cc in
-    λ k. some (slotFrom (p k) (q k) (v k) (w k))
-slot-there none i c r u e = absurd (let z : _≡_ {A = ℕ} 0 1 = cc in omega arith)
-
-pub no-slot : (o : Option Slot) → asSlot o ≡ slot.Bad → o ≡ none
-no-slot (some s) e = absurd (let z : _≡_ {A = ℕ} 0 1 = cc in omega arith)
-no-slot none e = refl
 
 -- ---- the columns of round r
 module _ (row : List ℕ) (r : ℕ) (h : 1 ≤ r) where
@@ -70,6 +57,13 @@ set-next {A} g z slots s i n l h =
     ∙ sym (append-snoc (map g slots) (g s) (replicate (n - (i + 1)) z))
     ∙ ap (λ (k : List A). k ++ replicate (n - (i + 1)) z) (sym (map-append g slots (s ∷ [])))
 
+abbrev asSlots : Option (List Slot) → Slots
+asSlots o = standing (λ (x : Slots). x .good) noSlots theSlots o
+
+slots-are : (o : Option (List Slot)) (r : Slots) → r ≡ asSlots o → SlotsSay o r
+unfolding noSlots theSlots
+slots-are o r e = is-standing (λ (x : Slots). x .good) noSlots theSlots refl (λ _. refl) o r e
+
 pub record Read (row : List ℕ) (i : ℕ) (ids colours results : List ℕ) (used : List Bool) : Type 0 where
   pub slots : List Slot
   pub long : length slots ≡ i
@@ -91,10 +85,10 @@ module _ (row : List ℕ) (i : ℕ) (ids colours results : List ℕ) (used : Lis
     next : each (slotOf row) (from (i + 1) (20 - i)) ≡ cons (slotOf row (i + 1)) (each (slotOf row) (from (i + 1 + 1) (20 - (i + 1))))
     next = let e : 20 - i ≡ suc (20 - (i + 1)) = omega arith in ap (λ (k : ℕ). each (slotOf row) (from (i + 1) k)) e
 
-    pub round-bad : slotOf row (i + 1) ≡ none → asSlots none ≡ asSlots (slotsOf row)
-    round-bad e =
-        ap asSlots
-        (sym (f .rest ∙ ap (to (λ (l : List Slot). f .slots ++ l)) (next ∙ ap (λ (o : Option Slot). cons o (each (slotOf row) (from (i + 1 + 1) (20 - (i + 1))))) e)))
+    pub round-bad : slotOf row (i + 1) ≡ none → {r : Slots} → r ≡ noSlots → SlotsSay (slotsOf row) r
+    round-bad e {r} n =
+        slots-are (slotsOf row) r
+        (n ∙ ap asSlots (sym (f .rest ∙ ap (to (λ (l : List Slot). f .slots ++ l)) (next ∙ ap (λ (o : Option Slot). cons o (each (slotOf row) (from (i + 1 + 1) (20 - (i + 1))))) e))))
 
     pub round-more : (s : Slot) → slotOf row (i + 1) ≡ some s → Read row (i + 1) (set ids i (s .id)) (set colours i (s .colour)) (set results i (s .result)) (set used i (s .used))
     round-more s e =
@@ -113,8 +107,8 @@ module _ (row : List ℕ) (i : ℕ) (ids colours results : List ℕ) (used : Lis
         go none = refl
         go (some l) = ap some (sym (append-snoc (f .slots) s l))
 
-  pub all-read : i ≡ 20 → record { good = true; ids = ids; colours = colours; results = results; used = used } ≡ asSlots (slotsOf row)
-  unfolding asSlots idsOf coloursOf resultsOf usedOf
+  pub all-read : i ≡ 20 → SlotsSay (slotsOf row) (record { good = true; ids = ids; colours = colours; results = results; used = used })
+  unfolding theSlots idsOf coloursOf resultsOf usedOf
   all-read e =
       let n : 20 - i ≡ 0 = omega arith in
       let whole : slotsOf row ≡ some (f .slots) = f .rest ∙ ap (λ (k : ℕ). to (λ (l : List Slot). f .slots ++ l) (each (slotOf row) (from (i + 1) k))) n ∙ ap some (append-nil (f .slots)) in
@@ -122,7 +116,7 @@ module _ (row : List ℕ) (i : ℕ) (ids colours results : List ℕ) (used : Lis
       let b : colours ≡ map (λ (s : Slot). s .colour) (f .slots) = f .colours-are ∙ ap (λ (k : ℕ). map (λ (s : Slot). s .colour) (f .slots) ++ replicate k 0) n ∙ append-nil (map (λ (s : Slot). s .colour) (f .slots)) in
       let c : results ≡ map (λ (s : Slot). s .result) (f .slots) = f .results-are ∙ ap (λ (k : ℕ). map (λ (s : Slot). s .result) (f .slots) ++ replicate k 0) n ∙ append-nil (map (λ (s : Slot). s .result) (f .slots)) in
       let d : used ≡ map (λ (s : Slot). s .used) (f .slots) = f .used-are ∙ ap (λ (k : ℕ). map (λ (s : Slot). s .used) (f .slots) ++ replicate k false) n ∙ append-nil (map (λ (s : Slot). s .used) (f .slots)) in
-      (λ k. record { good = true; ids = a k; colours = b k; results = c k; used = d k }) ∙ ap asSlots (sym whole)
+      slots-are (slotsOf row) (record { good = true; ids = ids; colours = colours; results = results; used = used }) ((λ k. record { good = true; ids = a k; colours = b k; results = c k; used = d k }) ∙ ap asSlots (sym whole))
 
 -- ---- the columns between the rounds' fields
 pub between-turn : (row : List ℕ) (i : ℕ) → i < 20 → (v : Bool)

@@ -1,20 +1,21 @@
--- What the readers of a 001 line answer, by the functions that decide it. Bad, and not good, is refusal 7.
-use mathlib.Core.Path.{_≡_}
+-- What the readers of a 001 line answer: document 01's number and values for each case of their enum, and of the structs that stand in for one.
 use mathlib.Core.Bool.{Bool, true, false}
-use mathlib.Core.Option.{Option, none, some}
+use mathlib.Core.Option.{Option}
 use mathlib.Core.List.{List, map}
 use Prim.Native.Nat.{ℕ}
 use lib.ListN.{replicate}
 use Rattle.law.specs.Players as law
+use Rattle.fields.specs.Said.{Said, says, refuses, Stands}
 use Rattle.rows.specs.declared.Slot.{Slot}
 use Rattle.rows.specs.declared.Slot.the-variants as slot
 use Rattle.rows.specs.declared.Slots.{Slots}
 use Rattle.rows.specs.declared.Row.{Row}
 
-abbrev pub asSlot : Option law.Slot → Slot
-asSlot (some s) = slot.Read (s .id) (s .colour) (s .result) (s .used)
-asSlot none = slot.Bad
+abbrev pub slotSays : Slot → Said law.Slot
+slotSays (slot.Read id colour result used) = says (record { id = id; colour = colour; result = result; used = used })
+slotSays slot.Bad = refuses 7
 
+-- ---- the rounds, one list a column
 unfoldable pub idsOf : List law.Slot → List ℕ
 idsOf slots = map (λ (s : law.Slot). s .id) slots
 
@@ -27,13 +28,18 @@ resultsOf slots = map (λ (s : law.Slot). s .result) slots
 unfoldable pub usedOf : List law.Slot → List Bool
 usedOf slots = map (λ (s : law.Slot). s .used) slots
 
-unfoldable pub asSlots : Option (List law.Slot) → Slots
-asSlots none = record { good = false; ids = replicate 20 0; colours = replicate 20 0; results = replicate 20 0; used = replicate 20 false }
-asSlots (some slots) = record { good = true; ids = idsOf slots; colours = coloursOf slots; results = resultsOf slots; used = usedOf slots }
+unfoldable pub noSlots : Slots
+noSlots = record { good = false; ids = replicate 20 0; colours = replicate 20 0; results = replicate 20 0; used = replicate 20 false }
+
+unfoldable pub theSlots : List law.Slot → Slots
+theSlots slots = record { good = true; ids = idsOf slots; colours = coloursOf slots; results = resultsOf slots; used = usedOf slots }
+
+abbrev pub SlotsSay : Option (List law.Slot) → Slots → Type 0
+SlotsSay o r = Stands (λ (x : Slots). x .good) noSlots theSlots o r
 
 -- ---- the line
-unfoldable pub asRow : Option law.PlayerLine → Row
-asRow none =
+unfoldable pub noRow : Row
+noRow =
     record {
       good = false;
       start = record { 0 = 0 };
@@ -45,7 +51,9 @@ asRow none =
       results = replicate 20 0;
       used = replicate 20 false;
     }
-asRow (some p) =
+
+unfoldable pub theRow : law.PlayerLine → Row
+theRow p =
     record {
       good = true;
       start = record { 0 = p .start };
@@ -58,7 +66,5 @@ asRow (some p) =
       used = usedOf (p .slots);
     }
 
--- in the statement's terms
-pub record RowMeans (row : List ℕ) (r : Row) : Type 0 where
-  pub spelled : (p : law.PlayerLine) → law.SpellsPlayer row p → r ≡ asRow (some p)
-  pub not-spelled : ((p : law.PlayerLine) → law.SpellsPlayer row p → ⊥) → r ≡ asRow none
+abbrev pub RowSays : Option law.PlayerLine → Row → Type 0
+RowSays o r = Stands (λ (x : Row). x .good) noRow theRow o r

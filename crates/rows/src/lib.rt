@@ -6,14 +6,14 @@ use records::MOST_START;
 use types::Rank;
 use types::StartNumber;
 ghost use mathlib.Core.Path.{_≡_};
-ghost use mathlib.Core.Option.{none};
 ghost use mathlib.Core.List.{[], _∷_};
 ghost use Prim.Native.Nat.{_+_, _≤_};
 ghost use Rattle.kit.specs.Lists.{all, among, conj, flat};
 ghost use Rattle.law.specs.Columns.{isBlank, cells, elseBlank, afterCode};
 ghost use Rattle.law.specs.Players.{slotColours, slotResults, roundFields, everyRound, playerFields, capital as capitalOf};
 ghost use Rattle.law.proofs.RecordsRead.{isUsed, slotOf, slotsOf, playerOf};
-ghost use Rattle.rows.specs.Rows.{asSlot, asSlots, asRow};
+ghost use Rattle.fields.specs.Said.{orBadField};
+ghost use Rattle.rows.specs.Rows.{slotSays, noSlots, SlotsSay, noRow, RowSays};
 
 // A round's columns on a 001 line: the id, 0 where it is blank, the colour as it stands, the result as a capital, and whether a byte of them is not blank.
 enum Slot {
@@ -90,7 +90,7 @@ fn is_used(line: &[u8], round: usize) -> bool
 
 fn slot_of(line: &[u8], round: usize) -> Slot
     requires { ⌜ (1 ≤ round) × (round ≤ 20) ⌝ }
-    ensures { λ r. ⌜ r ≡ asSlot (slotOf (now (line .entry)) round) ⌝ }
+    ensures { λ r. ⌜ slotSays r ≡ orBadField (slotOf (now (line .entry)) round) ⌝ }
 {
     let at = 81 + 10 * round;
     let colour = fields::column(line, at + 5);
@@ -108,7 +108,7 @@ fn slot_of(line: &[u8], round: usize) -> Slot
 }
 
 fn no_slots() -> Slots
-    ensures { λ r. ⌜ r ≡ asSlots none ⌝ }
+    ensures { λ r. ⌜ r ≡ noSlots ⌝ }
 {
     Slots {
         good: false,
@@ -120,7 +120,7 @@ fn no_slots() -> Slots
 }
 
 fn slots_of(line: &[u8]) -> Slots
-    ensures { λ r. ⌜ r ≡ asSlots (slotsOf (now (line .entry))) ⌝ }
+    ensures { λ r. ⌜ SlotsSay (slotsOf (now (line .entry))) r ⌝ }
 {
     let mut ids = [0u32; 20];
     let mut colours = [0u8; 20];
@@ -192,7 +192,7 @@ fn player_else_blank(line: &[u8]) -> bool
 }
 
 fn no_row() -> Row
-    ensures { λ r. ⌜ r ≡ asRow none ⌝ }
+    ensures { λ r. ⌜ r ≡ noRow ⌝ }
 {
     Row {
         good: false,
@@ -208,7 +208,7 @@ fn no_row() -> Row
 }
 
 pub fn player_of(line: &[u8]) -> Row
-    ensures { λ r. ⌜ r ≡ asRow (playerOf (now (line .entry))) ⌝ }
+    ensures { λ r. ⌜ RowSays (playerOf (now (line .entry))) r ⌝ }
 {
     if !player_else_blank(line) {
         return no_row();

@@ -1,2 +1,1 @@
 pub mod ScoringSlots
-pub mod Means

@@ -20,10 +20,12 @@ use Rattle.law.specs.Scoring.{letters, slotFields, values, defaults, scoringOf,
 use Rattle.law.proofs.FieldsRead.{pointsOf}
 use Rattle.law.proofs.RecordsRead.{valueOf, fillOr, filledFirst, areGiven, givenOf}
 use Rattle.fields.proofs.Columns.{cells-cons}
-use Rattle.scorings.specs.declared.Value.the-variants as value
 use Rattle.scorings.specs.declared.Given.{Given}
-use Rattle.scorings.specs.Scoring.{letterPlace, asValue, differing, slotsIn, lettersOf, seenIn, valuesOf, asGiven, asScored}
+use Rattle.scorings.specs.declared.Scored.{Scored}
+use Rattle.scorings.specs.Scoring.{letterPlace, placed, differing, slotsIn, lettersOf, seenIn, valuesOf, noneGiven, someGiven, GivenSays, noneScored, someScored, ScoredSays}
+use Rattle.fields.specs.Said.{says, refuses, orBadField}
 use Rattle.fields.proofs.Keys.{one-of}
+use Rattle.fields.proofs.Cases.{never, standing, stands-is, is-standing}
 
 -- ---- letters
 pub letter-is : (c : ℕ) → among c letters ≡ ltb (letterPlace c) 6
@@ -71,23 +73,23 @@ value-by row i c p v at p-is v-is =
     ap valueOf e ∙ rw (letter-is c, v-is, p-is) refl
 
 -- a slot that was read has a letter
-value-letter : (slot : List ℕ) (k p : ℕ) → asValue (valueOf slot) ≡ value.Of k p → (c : ℕ) × (valueOf slot ≡ some (c, p)) × (k ≡ letterPlace c) × (among c letters ≡ true)
+value-letter : (slot : List ℕ) (k p : ℕ) → orBadField (to placed (valueOf slot)) ≡ says (k, p) → (c : ℕ) × (valueOf slot ≡ some (c, p)) × (k ≡ letterPlace c) × (among c letters ≡ true)
 value-letter slot k p e = go (among (getD slot 0 blank) letters) refl (pointsOf (drop 1 slot)) refl e
   where
     go : (b : Bool) → among (getD slot 0 blank) letters ≡ b → (o : Option ℕ) → pointsOf (drop 1 slot) ≡ o
-        → asValue (when b (to (λ (q : ℕ). (getD slot 0 blank, q)) o)) ≡ value.Of k p → (c : ℕ) × (valueOf slot ≡ some (c, p)) × (k ≡ letterPlace c) × (among c letters ≡ true)
+        → orBadField (to placed (when b (to (λ (q : ℕ). (getD slot 0 blank, q)) o))) ≡ says (k, p) → (c : ℕ) × (valueOf slot ≡ some (c, p)) × (k ≡ letterPlace c) × (among c letters ≡ true)
     go true h (some q) r f =
-        let u : letterPlace (getD slot 0 blank) ≡ k = cc in
-        let v : q ≡ p = cc in
-        (getD slot 0 blank, rw (h, r, v) refl, sym u, h)
-    go true h none r f = let z : _≡_ {A = ℕ} 0 1 = cc in absurd (omega arith)
-    go false h o r f = let z : _≡_ {A = ℕ} 0 1 = cc in absurd (omega arith)
+        let w : placed (getD slot 0 blank, q) ≡ (k, p) = cc in
+        let v : q ≡ p = ap (λ (x : ℕ × ℕ). x .1) w in
+        (getD slot 0 blank, rw (h, r, v) refl, sym (ap (λ (x : ℕ × ℕ). x .0) w), h)
+    go true h none r f = never (sym f)
+    go false h o r f = never (sym f)
 
-no-value : (o : Option (ℕ × ℕ)) → asValue o ≡ value.Bad → o ≡ none
-no-value (some v) e = let z : _≡_ {A = ℕ} 0 1 = cc in absurd (omega arith)
+no-value : (o : Option (ℕ × ℕ)) → orBadField (to placed o) ≡ refuses 7 → o ≡ none
+no-value (some v) e = never e
 no-value none e = refl
 
-pub slot-place : (slot : List ℕ) (k p : ℕ) → asValue (valueOf slot) ≡ value.Of k p → k < 6
+pub slot-place : (slot : List ℕ) (k p : ℕ) → orBadField (to placed (valueOf slot)) ≡ says (k, p) → k < 6
 slot-place slot k p e =
     let r = value-letter slot k p e in
     let h = ltb-true (letterPlace (r .0)) 6 (sym (letter-is (r .0)) ∙ r .3) in
@@ -164,38 +166,60 @@ module _ (x : List ℕ) (xs : List (List ℕ)) where
       go (some v) (some given) = ap (λ (b : Bool). when b (some (v ∷ given))) (differ-more v given) ∙ kept v given (not (among (v .0) (lettersOf given))) (lettersDiffer given) refl
 
 -- ---- as a struct
+abbrev asGiven : Option (List (ℕ × ℕ)) → Given
+asGiven o = standing (λ (x : Given). x .good) noneGiven someGiven o
+
+given-is : (o : Option (List (ℕ × ℕ))) (r : Given) → GivenSays o r → r ≡ asGiven o
+given-is o r s = stands-is (λ (x : Given). x .good) noneGiven someGiven o r s
+
+is-given : (o : Option (List (ℕ × ℕ))) (r : Given) → r ≡ asGiven o → GivenSays o r
+unfolding noneGiven someGiven
+is-given o r e = is-standing (λ (x : Given). x .good) noneGiven someGiven refl (λ _. refl) o r e
+
+abbrev asScored : Option (List (ℕ × ℕ)) → Scored
+asScored o = standing (λ (x : Scored). x .good) noneScored someScored o
+
+is-scored : (o : Option (List (ℕ × ℕ))) (r : Scored) → asScored o ≡ r → ScoredSays o r
+is-scored o r e = is-standing (λ (x : Scored). x .good) noneScored someScored refl (λ _. refl) o r (sym e)
+
 not-good : (o : Option (List (ℕ × ℕ))) → asGiven o .good ≡ false → o ≡ none
-unfolding asGiven
+unfolding noneGiven someGiven
 not-good none e = refl
 not-good (some given) e = clash (sym e)
 
 is-good : (o : Option (List (ℕ × ℕ))) → asGiven o .good ≡ true → (given : List (ℕ × ℕ)) × (o ≡ some given)
-unfolding asGiven
+unfolding noneGiven someGiven
 is-good none e = clash e
 is-good (some given) e = (given, refl)
 
 if-filled : (o : Option (List (ℕ × ℕ))) → asGiven o .filled ≡ true → ifNone o ≡ none
-unfolding asGiven
+unfolding noneGiven someGiven
 if-filled none e = refl
 if-filled (some []) e = clash e
 if-filled (some (v ∷ given)) e = refl
 
 if-not-filled : (o : Option (List (ℕ × ℕ))) → asGiven o .good ≡ true → asGiven o .filled ≡ false → o ≡ ifNone o
-unfolding asGiven
+unfolding noneGiven someGiven
 if-not-filled none g e = refl
 if-not-filled (some []) g e = refl
 if-not-filled (some (v ∷ given)) g e = clash (sym e)
 
 -- no slot filled
-pub none-yet : (b : Bool) → record { good = b; filled = false; seen = replicate 6 false; values = values defaults } ≡ asGiven (when b (some []))
-unfolding asGiven seenIn valuesOf scoringOf
-none-yet true = refl
-none-yet false = refl
+pub none-yet : (b : Bool) → GivenSays (when b (some [])) (record { good = b; filled = false; seen = replicate 6 false; values = values defaults })
+unfolding noneGiven someGiven seenIn valuesOf scoringOf
+none-yet true = is-given (some []) (record { good = true; filled = false; seen = replicate 6 false; values = values defaults }) refl
+none-yet false = is-given none (record { good = false; filled = false; seen = replicate 6 false; values = values defaults }) refl
 
 -- one slot more before those after it, of which `given` is what they give
-module _ (slot : List ℕ) (after : List (List ℕ)) (given : Given) (is : given ≡ asGiven (differing after)) where
-  pub after-bad : given .good ≡ false → asGiven none ≡ asGiven (differing (slot ∷ after))
-  after-bad g = ap asGiven (sym (go (all isBlank slot) refl (valueOf slot) refl))
+module _ (slot : List ℕ) (after : List (List ℕ)) (given : Given) (said : GivenSays (differing after) given) where
+  is : given ≡ asGiven (differing after)
+  is = given-is (differing after) given said
+
+  bad : differing (slot ∷ after) ≡ none → {r : Given} → GivenSays none r → GivenSays (differing (slot ∷ after)) r
+  bad e {r} n = subst (λ (o : Option (List (ℕ × ℕ))). GivenSays o r) (sym e) n
+
+  pub after-bad : given .good ≡ false → {r : Given} → GivenSays none r → GivenSays (differing (slot ∷ after)) r
+  after-bad g n = bad (go (all isBlank slot) refl (valueOf slot) refl) n
     where
       nothing : differing after ≡ none
       nothing = not-good (differing after) (ap (λ (x : Given). x .good) (sym is) ∙ g)
@@ -205,22 +229,23 @@ module _ (slot : List ℕ) (after : List (List ℕ)) (given : Given) (is : given
       go false p none q = filled-first slot after p ∙ ap₂ added q nothing
       go false p (some v) q = filled-first slot after p ∙ ap₂ added q nothing
 
-  pub blank-late : all isBlank slot ≡ true → given .filled ≡ true → asGiven none ≡ asGiven (differing (slot ∷ after))
-  blank-late b f = ap asGiven (sym (blank-first slot after b ∙ if-filled (differing after) (ap (λ (x : Given). x .filled) (sym is) ∙ f)))
+  pub blank-late : all isBlank slot ≡ true → given .filled ≡ true → {r : Given} → GivenSays none r → GivenSays (differing (slot ∷ after)) r
+  blank-late b f n = bad (blank-first slot after b ∙ if-filled (differing after) (ap (λ (x : Given). x .filled) (sym is) ∙ f)) n
 
-  pub blank-more : all isBlank slot ≡ true → given .good ≡ true → given .filled ≡ false → given ≡ asGiven (differing (slot ∷ after))
+  pub blank-more : all isBlank slot ≡ true → given .good ≡ true → given .filled ≡ false → GivenSays (differing (slot ∷ after)) given
   blank-more b g f =
-      is ∙ ap asGiven (if-not-filled (differing after) (ap (λ (x : Given). x .good) (sym is) ∙ g) (ap (λ (x : Given). x .filled) (sym is) ∙ f) ∙ sym (blank-first slot after b))
+      is-given (differing (slot ∷ after)) given
+      (is ∙ ap asGiven (if-not-filled (differing after) (ap (λ (x : Given). x .good) (sym is) ∙ g) (ap (λ (x : Given). x .filled) (sym is) ∙ f) ∙ sym (blank-first slot after b)))
 
   module _ (b : all isBlank slot ≡ false) where
-    pub slot-bad : asValue (valueOf slot) ≡ value.Bad → asGiven none ≡ asGiven (differing (slot ∷ after))
-    slot-bad e = ap asGiven (sym (filled-first slot after b ∙ ap (λ (v : Option (ℕ × ℕ)). added v (differing after)) (no-value (valueOf slot) e)))
+    pub slot-bad : orBadField (to placed (valueOf slot)) ≡ refuses 7 → {r : Given} → GivenSays none r → GivenSays (differing (slot ∷ after)) r
+    slot-bad e n = bad (filled-first slot after b ∙ ap (λ (v : Option (ℕ × ℕ)). added v (differing after)) (no-value (valueOf slot) e)) n
 
-    module _ (g : given .good ≡ true) (k p : ℕ) (e : asValue (valueOf slot) ≡ value.Of k p) where
+    module _ (g : given .good ≡ true) (k p : ℕ) (e : orBadField (to placed (valueOf slot)) ≡ says (k, p)) where
       before : (l : List (ℕ × ℕ)) × (differing after ≡ some l)
       before = is-good (differing after) (ap (λ (x : Given). x .good) (sym is) ∙ g)
 
-      whole : given ≡ asGiven (some (before .0))
+      whole : given ≡ someGiven (before .0)
       whole = is ∙ ap asGiven (before .1)
 
       letter : (c : ℕ) × (valueOf slot ≡ some (c, p)) × (k ≡ letterPlace c) × (among c letters ≡ true)
@@ -230,19 +255,20 @@ module _ (slot : List ℕ) (after : List (List ℕ)) (given : Given) (is : given
       one = filled-first slot after b ∙ ap₂ added (letter .1) (before .1)
 
       seen : getD (given .seen) k false ≡ among (letter .0) (lettersOf (before .0))
-      unfolding asGiven
+      unfolding someGiven
       seen = ap₂ (λ (x : Given) (j : ℕ). getD (x .seen) j false) whole (letter .2) ∙ seen-at (before .0) p (letter .0) (letter .3)
 
-      pub letter-again : getD (given .seen) k false ≡ true → asGiven none ≡ asGiven (differing (slot ∷ after))
-      letter-again s = ap asGiven (sym (one ∙ ap (λ (v : Bool). when (not v) (some ((letter .0, p) ∷ before .0))) (sym seen ∙ s)))
+      pub letter-again : getD (given .seen) k false ≡ true → {r : Given} → GivenSays none r → GivenSays (differing (slot ∷ after)) r
+      letter-again s n = bad (one ∙ ap (λ (v : Bool). when (not v) (some ((letter .0, p) ∷ before .0))) (sym seen ∙ s)) n
 
-      pub letter-new : getD (given .seen) k false ≡ false → record { good = true; filled = true; seen = set (given .seen) k true; values = set (given .values) k p } ≡ asGiven (differing (slot ∷ after))
-      unfolding asGiven
+      pub letter-new : getD (given .seen) k false ≡ false → GivenSays (differing (slot ∷ after)) (record { good = true; filled = true; seen = set (given .seen) k true; values = set (given .values) k p })
+      unfolding someGiven
       letter-new s =
-          ap₂ (λ (l : List Bool) (m : List ℕ). record { good = true; filled = true; seen = l; values = m })
+          is-given (differing (slot ∷ after)) (record { good = true; filled = true; seen = set (given .seen) k true; values = set (given .values) k p })
+          (ap₂ (λ (l : List Bool) (m : List ℕ). record { good = true; filled = true; seen = l; values = m })
           (ap₂ (λ (x : Given) (j : ℕ). set (x .seen) j true) whole (letter .2) ∙ seen-set (before .0) p (letter .0) (letter .3))
           (ap₂ (λ (x : Given) (j : ℕ). set (x .values) j p) whole (letter .2) ∙ values-set (before .0) p (letter .0) (letter .3))
-          ∙ ap asGiven (sym (one ∙ ap (λ (v : Bool). when (not v) (some ((letter .0, p) ∷ before .0))) (sym seen ∙ s)))
+          ∙ ap asGiven (sym (one ∙ ap (λ (v : Bool). when (not v) (some ((letter .0, p) ∷ before .0))) (sym seen ∙ s))))
 
 -- ---- the six slots, and the line
 pub slots-turn : (row : List ℕ) (i : ℕ) → i < 6 → drop i (slotsIn row) ≡ cells row (5 + 9 * i) 5 ∷ drop (i + 1) (slotsIn row)
@@ -274,25 +300,30 @@ given-by row = ap (when (elseBlank afterCode slotFields row)) (go (filledFirst (
         and-both false p false q = refl
 
 module _ (row : List ℕ) where
-  pub not-blank : elseBlank afterCode slotFields row ≡ false → asScored (givenOf row) ≡ asScored none
-  not-blank e = ap asScored (given-by row ∙ ap (λ (v : Bool). when v (keep filledSome (differing (slotsIn row)))) e)
+  pub not-blank : elseBlank afterCode slotFields row ≡ false → ScoredSays (givenOf row) noneScored
+  not-blank e = is-scored (givenOf row) noneScored (ap asScored (given-by row ∙ ap (λ (v : Bool). when v (keep filledSome (differing (slotsIn row)))) e))
 
-  module _ (e : elseBlank afterCode slotFields row ≡ true) (given : Given) (is : given ≡ asGiven (differing (slotsIn row))) where
+  module _ (e : elseBlank afterCode slotFields row ≡ true) (given : Given) (said : GivenSays (differing (slotsIn row)) given) where
+    six-are : given ≡ asGiven (differing (slotsIn row))
+    six-are = given-is (differing (slotsIn row)) given said
+
     by-slots : givenOf row ≡ keep filledSome (differing (slotsIn row))
     by-slots = given-by row ∙ ap (λ (v : Bool). when v (keep filledSome (differing (slotsIn row)))) e
 
-    pub none-filled : given .filled ≡ false → asScored (givenOf row) ≡ asScored none
-    unfolding asGiven
-    none-filled f = ap asScored by-slots ∙ go (differing (slotsIn row)) (ap (λ (x : Given). x .filled) (sym is) ∙ f)
+    pub none-filled : given .filled ≡ false → ScoredSays (givenOf row) noneScored
+    unfolding noneGiven someGiven
+    none-filled f = is-scored (givenOf row) noneScored (ap asScored by-slots ∙ go (differing (slotsIn row)) (ap (λ (x : Given). x .filled) (sym six-are) ∙ f))
       where
         go : (o : Option (List (ℕ × ℕ))) → asGiven o .filled ≡ false → asScored (keep filledSome o) ≡ asScored none
         go none h = refl
         go (some []) h = refl
         go (some (v ∷ l)) h = clash (sym h)
 
-    pub some-filled : given .filled ≡ true → asScored (givenOf row) ≡ record { good = true; scoring = record { values = given .values } }
-    unfolding asGiven valuesOf
-    some-filled f = ap asScored by-slots ∙ go (differing (slotsIn row)) (ap (λ (x : Given). x .filled) (sym is) ∙ f) ∙ ap (λ (x : Given). record { good = true; scoring = record { values = x .values } }) (sym is)
+    pub some-filled : given .filled ≡ true → ScoredSays (givenOf row) (record { good = true; scoring = record { values = given .values } })
+    unfolding noneGiven someGiven valuesOf
+    some-filled f =
+        is-scored (givenOf row) (record { good = true; scoring = record { values = given .values } })
+        (ap asScored by-slots ∙ go (differing (slotsIn row)) (ap (λ (x : Given). x .filled) (sym six-are) ∙ f) ∙ ap (λ (x : Given). record { good = true; scoring = record { values = x .values } }) (sym six-are))
       where
         go : (o : Option (List (ℕ × ℕ))) → asGiven o .filled ≡ true → asScored (keep filledSome o) ≡ record { good = true; scoring = record { values = asGiven o .values } }
         go none h = clash h

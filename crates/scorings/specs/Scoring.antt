@@ -1,7 +1,6 @@
--- What the readers of a 162 line answer, by the functions that decide it. Bad, and not good, is refusal 7.
-use mathlib.Core.Path.{_≡_}
+-- What the readers of a 162 line answer: document 01's number and values for each case of their enum, and of the structs that stand in for one.
 use mathlib.Core.Bool.{Bool, true, false, cond, not}
-use mathlib.Core.Option.{Option, none, some}
+use mathlib.Core.Option.{Option}
 use mathlib.Core.List.{List, [], _∷_, map}
 use Prim.Native.Nat.{ℕ}
 use Prim.Native.Char.{code}
@@ -12,6 +11,7 @@ use Rattle.kit.specs.Decides.{keep}
 use Rattle.law.specs.Columns.{part}
 use Rattle.law.specs.Scoring as law
 use Rattle.law.proofs.RecordsRead.{filledFirst}
+use Rattle.fields.specs.Said.{Said, says, refuses, Stands}
 use Rattle.scorings.specs.declared.Value.{Value}
 use Rattle.scorings.specs.declared.Value.the-variants as value
 use Rattle.scorings.specs.declared.Given.{Given}
@@ -24,9 +24,13 @@ letterPlace c =
     cond (eqb c (code "W")) 0
     (cond (eqb c (code "D")) 1 (cond (eqb c (code "L")) 2 (cond (eqb c (code "A")) 3 (cond (eqb c (code "P")) 4 (cond (eqb c (code "X")) 5 6)))))
 
-abbrev pub asValue : Option (ℕ × ℕ) → Value
-asValue (some v) = value.Of (letterPlace (v .0)) (v .1)
-asValue none = value.Bad
+-- the letter's place, and the points
+abbrev pub valueSays : Value → Said (ℕ × ℕ)
+valueSays (value.Of letter points) = says (letter, points)
+valueSays value.Bad = refuses 7
+
+abbrev pub placed : ℕ × ℕ → ℕ × ℕ
+placed v = (letterPlace (v .0), v .1)
 
 -- ---- slots, of which the first are filled and the letters differ
 abbrev pub differing : List (List ℕ) → Option (List (ℕ × ℕ))
@@ -44,16 +48,21 @@ seenIn given = map (λ c. among c (lettersOf given)) law.letters
 unfoldable pub valuesOf : List (ℕ × ℕ) → List ℕ
 valuesOf given = law.values (law.scoringOf given)
 
-unfoldable pub asGiven : Option (List (ℕ × ℕ)) → Given
-asGiven none = record { good = false; filled = false; seen = replicate 6 false; values = law.values law.defaults }
-asGiven (some given) = record { good = true; filled = not (isEmpty given); seen = seenIn given; values = valuesOf given }
+unfoldable pub noneGiven : Given
+noneGiven = record { good = false; filled = false; seen = replicate 6 false; values = law.values law.defaults }
+
+unfoldable pub someGiven : List (ℕ × ℕ) → Given
+someGiven given = record { good = true; filled = not (isEmpty given); seen = seenIn given; values = valuesOf given }
+
+abbrev pub GivenSays : Option (List (ℕ × ℕ)) → Given → Type 0
+GivenSays o r = Stands (λ (x : Given). x .good) noneGiven someGiven o r
 
 -- ---- the line: its values, or the defaults
-abbrev pub asScored : Option (List (ℕ × ℕ)) → Scored
-asScored none = record { good = false; scoring = record { values = law.values law.defaults } }
-asScored (some given) = record { good = true; scoring = record { values = law.values (law.scoringOf given) } }
+abbrev pub noneScored : Scored
+noneScored = record { good = false; scoring = record { values = law.values law.defaults } }
 
--- in the statement's terms
-pub record ScoredMeans (row : List ℕ) (r : Scored) : Type 0 where
-  pub spelled : (given : List (ℕ × ℕ)) → law.SpellsScoring row given → r ≡ asScored (some given)
-  pub not-spelled : ((given : List (ℕ × ℕ)) → law.SpellsScoring row given → ⊥) → r ≡ asScored none
+abbrev pub someScored : List (ℕ × ℕ) → Scored
+someScored given = record { good = true; scoring = record { values = law.values (law.scoringOf given) } }
+
+abbrev pub ScoredSays : Option (List (ℕ × ℕ)) → Scored → Type 0
+ScoredSays o r = Stands (λ (x : Scored). x .good) noneScored someScored o r

@@ -5,11 +5,12 @@ ghost use mathlib.Core.Path.{_≡_};
 ghost use mathlib.Core.Option.{some};
 ghost use mathlib.Core.List.{List, [], _∷_};
 ghost use Prim.Native.Nat.{ℕ, _≤_};
-ghost use Rattle.kit.specs.Decides.{when};
+ghost use Rattle.kit.specs.Decides.{to, when};
 ghost use Rattle.law.specs.Columns.{cells, elseBlank, afterCode};
 ghost use Rattle.law.specs.Scoring.{slotFields};
 ghost use Rattle.law.proofs.RecordsRead.{valueOf, givenOf};
-ghost use Rattle.scorings.specs.Scoring.{letterPlace, asValue, differing, slotsIn, asGiven, asScored};
+ghost use Rattle.fields.specs.Said.{orBadField};
+ghost use Rattle.scorings.specs.Scoring.{letterPlace, valueSays, placed, differing, slotsIn, GivenSays, ScoredSays};
 
 // What W, D, L, A, P and X are worth, in tenths.
 pub struct Scoring {
@@ -53,7 +54,7 @@ fn letter_place(c: u8) -> usize
 
 fn value_at(line: &[u8], from: usize) -> Value
     requires { ⌜ from ≤ 65534 ⌝ }
-    ensures { λ r. ⌜ r ≡ asValue (valueOf (cells (now (line .entry)) from 5)) ⌝ }
+    ensures { λ r. ⌜ valueSays r ≡ orBadField (to placed (valueOf (cells (now (line .entry)) from 5))) ⌝ }
 {
     let letter = letter_place(fields::column(line, from));
     if 6 <= letter {
@@ -67,7 +68,7 @@ fn value_at(line: &[u8], from: usize) -> Value
 
 // No slot filled.
 fn nothing_given(good: bool) -> Given
-    ensures { λ r. ⌜ r ≡ asGiven (when good (some [])) ⌝ }
+    ensures { λ r. ⌜ GivenSays (when good (some [])) r ⌝ }
 {
     let defaults = Scoring::DEFAULTS;
     let values = defaults.values;
@@ -82,7 +83,7 @@ fn nothing_given(good: bool) -> Given
 // One slot more, before those that are given: a blank one has only blank ones after it, and a filled one has a letter of its own.
 fn with_slot(line: &[u8], from: usize, given: Given) -> Given
     requires { ⌜ from ≤ 65534 ⌝ }
-    ensures { λ r. ⌜ ((after : List (List ℕ)) → given ≡ asGiven (differing after) → r ≡ asGiven (differing (cells (now (line .entry)) from 5 ∷ after))) ⌝ }
+    ensures { λ r. ⌜ ((after : List (List ℕ)) → GivenSays (differing after) given → GivenSays (differing (cells (now (line .entry)) from 5 ∷ after)) r) ⌝ }
 {
     if !given.good {
         return nothing_given(false);
@@ -113,7 +114,7 @@ fn with_slot(line: &[u8], from: usize, given: Given) -> Given
 
 // The six slots, from the last to the first.
 fn slots_given(line: &[u8]) -> Given
-    ensures { λ r. ⌜ r ≡ asGiven (differing (slotsIn (now (line .entry)))) ⌝ }
+    ensures { λ r. ⌜ GivenSays (differing (slotsIn (now (line .entry)))) r ⌝ }
 {
     let mut given = nothing_given(true);
     let mut i = 6;
@@ -156,7 +157,7 @@ impl Scoring {
 
     // A letter that is not given keeps its default.
     pub fn from_line(line: &[u8]) -> Scored
-        ensures { λ r. ⌜ r ≡ asScored (givenOf (now (line .entry))) ⌝ }
+        ensures { λ r. ⌜ ScoredSays (givenOf (now (line .entry))) r ⌝ }
     {
         if !scoring_else_blank(line) {
             return Scored {

@@ -1,10 +1,11 @@
 -- `kept_columns::is_kept` meets its contract: at each answer the tests so far say what the whole test is. Assumes nothing.
-use mathlib.Core.Path.{_≡_, refl, sym, _∙_}
+use mathlib.Core.Path.{_≡_, refl, sym, ap, _∙_}
 use mathlib.Core.Bool.{true, false}
 use mathlib.Core.Option.{none, some}
 use lib.ListN.{length}
 use borrow.Author.Tests.{not-true, not-false}
 use Rattle.kept_columns.proofs.KeptColumns.{kept-by, sex-there, title-there}
+use Rattle.fields.specs.Fields.{numberSays}
 use Rattle.fields.proofs.Cases.{found, not-found}
 use borrow.Author.Needs.{needs}
 use Rattle.kept_columns.proofs.is_kept.Statement.{statement}
@@ -74,13 +75,13 @@ returns-5 : tie.Need-returns-5
 returns-5 c =
     let k = c .before .before .before .before .before .before .before .before .before .before .before .before .args .t1 in
     let long : length k ≡ 70 = search needs in
-    sym (kept-by k true true true true none (sex-there k true long (sym (c .before .before .before .before .before .before .before .before .before .before .before .is-sex .ensures) ∙ not-false _ (c .before .before .before .before .before .before .before .before .before .before .if1 .left))) (title-there k true long (sym (c .before .before .before .before .before .before .before .before .before .is-title .ensures) ∙ not-false _ (c .before .before .before .before .before .before .before .before .if2 .left))) (sym (c .before .before .before .before .before .before .is-birth .ensures) ∙ not-false _ (c .before .before .before .before .before .if3 .left)) (sym (c .before .before .before .before .kept-gaps-blank .ensures) ∙ not-false _ (c .before .before .before .if4 .left)) (not-found _ _ (c .before .number-or-blank .ensures) (c .match .keys2)))
+    sym (kept-by k true true true true none (sex-there k true long (sym (c .before .before .before .before .before .before .before .before .before .before .before .is-sex .ensures) ∙ not-false _ (c .before .before .before .before .before .before .before .before .before .before .if1 .left))) (title-there k true long (sym (c .before .before .before .before .before .before .before .before .before .is-title .ensures) ∙ not-false _ (c .before .before .before .before .before .before .before .before .if2 .left))) (sym (c .before .before .before .before .before .before .is-birth .ensures) ∙ not-false _ (c .before .before .before .before .before .if3 .left)) (sym (c .before .before .before .before .kept-gaps-blank .ensures) ∙ not-false _ (c .before .before .before .if4 .left)) (not-found _ (c .before .number-or-blank .result) (c .before .number-or-blank .ensures) (c .match .keys2)))
 
 returns-6 : tie.Need-returns-6
 returns-6 c =
     let k = c .before .before .before .before .before .before .before .before .before .before .before .before .before .args .t1 in
     let long : length k ≡ 70 = search needs in
-    sym (kept-by k true true true true (some _) (sex-there k true long (sym (c .before .before .before .before .before .before .before .before .before .before .before .before .is-sex .ensures) ∙ not-false _ (c .before .before .before .before .before .before .before .before .before .before .before .if1 .left))) (title-there k true long (sym (c .before .before .before .before .before .before .before .before .before .before .is-title .ensures) ∙ not-false _ (c .before .before .before .before .before .before .before .before .before .if2 .left))) (sym (c .before .before .before .before .before .before .before .is-birth .ensures) ∙ not-false _ (c .before .before .before .before .before .before .if3 .left)) (sym (c .before .before .before .before .before .kept-gaps-blank .ensures) ∙ not-false _ (c .before .before .before .before .if4 .left)) (found _ _ (sym (c .before .before .number-or-blank .ensures) ∙ c .enum-told .given .1)))
+    sym (kept-by k true true true true (some _) (sex-there k true long (sym (c .before .before .before .before .before .before .before .before .before .before .before .before .is-sex .ensures) ∙ not-false _ (c .before .before .before .before .before .before .before .before .before .before .before .if1 .left))) (title-there k true long (sym (c .before .before .before .before .before .before .before .before .before .before .is-title .ensures) ∙ not-false _ (c .before .before .before .before .before .before .before .before .before .if2 .left))) (sym (c .before .before .before .before .before .before .before .is-birth .ensures) ∙ not-false _ (c .before .before .before .before .before .before .if3 .left)) (sym (c .before .before .before .before .before .kept-gaps-blank .ensures) ∙ not-false _ (c .before .before .before .before .if4 .left)) (found _ _ (sym (c .before .before .number-or-blank .ensures) ∙ ap numberSays (c .enum-told .given .1))))
 
 pub is-kept-spec : {M : Type 1} → statement M
 is-kept-spec =

@@ -1,11 +1,11 @@
 -- `rows::no_row` meets its contract. Assumes nothing.
 use mathlib.Core.Path.{refl}
-use Rattle.rows.specs.Rows.{asRow}
+use Rattle.rows.specs.Rows.{noRow}
 use Rattle.rows.proofs.no_row.Statement.{statement}
 use Rattle.rows.proofs.no_row.Tie as tie
 
 returns : tie.Need-returns
-unfolding asRow
+unfolding noRow
 returns c = refl
 
 pub no-row-spec : {M : Type 1} → statement M

@@ -1,8 +1,10 @@
 -- `rows::slots_of` meets its contract. The loop's invariant: the first i rounds are read. Assumes nothing.
 use native.Mathlib.Omega.{arith}
-use mathlib.Core.Path.{_≡_, refl, sym, _∙_}
+use mathlib.Core.Path.{_≡_, sym, ap, _∙_}
 use Prim.Native.Nat.{ℕ, _≤_, _-_}
-use Rattle.rows.proofs.PlayerRounds.{Read, none-read, round-bad, round-more, all-read, slot-there, no-slot}
+use Rattle.fields.proofs.Cases.{value-said, none-said}
+use Rattle.rows.specs.Rows.{slotSays}
+use Rattle.rows.proofs.PlayerRounds.{Read, none-read, round-bad, round-more, all-read}
 use borrow.Author.Needs.{needs}
 use Rattle.rows.proofs.slots_of.Statement.{statement}
 use Rattle.rows.proofs.slots_of.Tie as tie
@@ -34,9 +36,8 @@ no-slots-requires c κs = tt
 returns : tie.Need-returns Inv-loop μ-loop
 returns c =
     let l = c .before .before .before .before .before in
-    c .no-slots .ensures
-    ∙ round-bad (c .before .before .before .before .before .before .before .args .line .now) (l .loop .i) (l .loop .ids) (l .loop .colours) (l .loop .results) (l .loop .used) (l .loop .inv .1) (c .before .before .before .before .loop-test .taken)
-    (no-slot _ (sym (c .before .before .before .slot-of .ensures) ∙ c .before .enum-told .given .1))
+    round-bad (c .before .before .before .before .before .before .before .args .line .now) (l .loop .i) (l .loop .ids) (l .loop .colours) (l .loop .results) (l .loop .used) (l .loop .inv .1) (c .before .before .before .before .loop-test .taken)
+    (none-said _ (sym (c .before .before .before .slot-of .ensures) ∙ ap slotSays (c .before .enum-told .given .1))) (c .no-slots .ensures)
 
 mul-ids : tie.Need-mul-ids Inv-loop μ-loop
 mul-ids c = search needs
@@ -64,7 +65,7 @@ loop-again c =
     let l = c .before .before .before .before .before in (
       search needs,
       round-more (c .before .before .before .before .before .before .before .args .line .now) (l .loop .i) (l .loop .ids) (l .loop .colours) (l .loop .results) (l .loop .used) (l .loop .inv .1) (c .before .before .before .before .loop-test .taken) _
-          (slot-there _ _ _ _ _ (sym (c .before .before .before .slot-of .ensures) ∙ c .before .id .given .1)),
+          (value-said _ _ (sym (c .before .before .before .slot-of .ensures) ∙ ap slotSays (c .before .id .given .1))),
     )
 
 returns-2 : tie.Need-returns-2 Inv-loop μ-loop

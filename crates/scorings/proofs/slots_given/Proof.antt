@@ -1,18 +1,18 @@
 -- `scorings::slots_given` meets its contract. The loop's invariant: the slots from the i-th on are given. Assumes nothing.
 use native.Mathlib.Omega.{arith}
-use mathlib.Core.Path.{_≡_, refl, sym, ap, _∙_}
+use mathlib.Core.Path.{_≡_, sym, ap, _∙_, subst}
 use Prim.Native.Nat.{ℕ, _≤_, _+_, _*_, _-_}
 use lib.ListN.{drop}
-use mathlib.Core.List.{_∷_}
+use mathlib.Core.List.{List, _∷_}
 use Rattle.law.specs.Columns.{cells}
-use Rattle.scorings.specs.Scoring.{differing, slotsIn, asGiven}
+use Rattle.scorings.specs.Scoring.{differing, slotsIn, GivenSays}
 use Rattle.scorings.proofs.ScoringSlots.{slots-turn}
 use borrow.Author.Needs.{needs}
 use Rattle.scorings.proofs.slots_given.Statement.{statement}
 use Rattle.scorings.proofs.slots_given.Tie as tie
 
 abbrev Inv-loop : tie.InvT-loop
-Inv-loop line given₀ i₀ given i = (i ≤ 6) × (given ≡ asGiven (differing (drop i (slotsIn line))))
+Inv-loop line given₀ i₀ given i = (i ≤ 6) × GivenSays (differing (drop i (slotsIn line))) given
 
 abbrev μ-loop : tie.MeasureT-loop
 μ-loop line given₀ i₀ given i = i
@@ -45,15 +45,15 @@ loop-again c =
     let i = l .loop .i - 1 in
     let up : i + 1 ≡ l .loop .i = omega arith in (
       omega arith,
-      c .with-slot .ensures (drop (l .loop .i) (slotsIn row)) (l .loop .inv .1)
-          ∙ sym (ap (λ s. asGiven (differing s)) (slots-turn row i (omega arith) ∙ ap (λ (k : ℕ). cells row (5 + 9 * i) 5 ∷ drop k (slotsIn row)) up)),
+      subst (λ (s : List (List ℕ)). GivenSays (differing s) (c .with-slot .result)) (sym (slots-turn row i (omega arith) ∙ ap (λ (k : ℕ). cells row (5 + 9 * i) 5 ∷ drop k (slotsIn row)) up))
+          (c .with-slot .ensures (drop (l .loop .i) (slotsIn row)) (l .loop .inv .1)),
     )
 
 returns : tie.Need-returns Inv-loop μ-loop
 returns c =
     let l = c .before in
     let none-left : l .loop .i ≡ 0 = omega arith in
-    l .loop .inv .1 ∙ ap (λ (k : ℕ). asGiven (differing (drop k (slotsIn (c .before .before .before .before .args .line .now))))) none-left
+    subst (λ (k : ℕ). GivenSays (differing (drop k (slotsIn (c .before .before .before .before .args .line .now)))) (l .loop .given)) none-left (l .loop .inv .1)
 
 pub slots-given-spec : {M : Type 1} → statement M
 slots-given-spec =

@@ -9,20 +9,20 @@ scoring-else-blank-requires : tie.Need-scoring-else-blank-requires
 scoring-else-blank-requires c κs = tt
 
 returns : tie.Need-returns
-returns c = sym (not-blank (c .before .before .before .args .line .now) (sym (c .before .scoring-else-blank .ensures) ∙ not-true _ (c .if1 .taken)))
+returns c = not-blank (c .before .before .before .args .line .now) (sym (c .before .scoring-else-blank .ensures) ∙ not-true _ (c .if1 .taken))
 
 slots-given-requires : tie.Need-slots-given-requires
 slots-given-requires c κs = tt
 
 returns-2 : tie.Need-returns-2
 returns-2 c =
-    sym (none-filled (c .before .before .before .before .before .before .args .line .now) (sym (c .before .before .before .before .scoring-else-blank .ensures) ∙ not-false _ (c .before .before .before .if1 .left)) (c .before .before .slots-given .result) (c .before .before .slots-given .ensures)
-    (not-true _ (c .if2 .taken)))
+    none-filled (c .before .before .before .before .before .before .args .line .now) (sym (c .before .before .before .before .scoring-else-blank .ensures) ∙ not-false _ (c .before .before .before .if1 .left)) (c .before .before .slots-given .result) (c .before .before .slots-given .ensures)
+    (not-true _ (c .if2 .taken))
 
 returns-3 : tie.Need-returns-3
 returns-3 c =
-    sym (some-filled (c .before .before .before .before .before .before .before .args .line .now) (sym (c .before .before .before .before .before .scoring-else-blank .ensures) ∙ not-false _ (c .before .before .before .before .if1 .left)) (c .before .before .before .slots-given .result) (c .before .before .before .slots-given .ensures)
-    (not-false _ (c .before .if2 .left)))
+    some-filled (c .before .before .before .before .before .before .before .args .line .now) (sym (c .before .before .before .before .before .scoring-else-blank .ensures) ∙ not-false _ (c .before .before .before .before .if1 .left)) (c .before .before .before .slots-given .result) (c .before .before .before .slots-given .ensures)
+    (not-false _ (c .before .if2 .left))
 
 pub from-line-spec : {M : Type 1} → statement M
 from-line-spec =
