@@ -1,4 +1,5 @@
 // The 70 columns 10-79 of a 001 line, which are kept byte by byte: taken from the line, and whether they keep to their rules.
+use cells::KEPT_COLUMNS;
 use fields::Number;
 ghost use mathlib.Core.Path.{_≡_};
 ghost use mathlib.Core.List.{[], _∷_};
@@ -11,6 +12,11 @@ ghost use Rattle.law.specs.Players.{keptField, keptFields, inLine, sexes, title
 ghost use Rattle.law.proofs.RecordsRead.{isKept};
 ghost use Rattle.kept_columns.specs.Kept.{Least, grades, fitsShape, dateShape};
 
+// How many columns stand before the kept ones, and up to their end.
+const BEFORE_KEPT: usize = 9;
+
+const KEPT_END: usize = BEFORE_KEPT + KEPT_COLUMNS;
+
 fn least(a: usize, b: usize) -> usize
     ensures { λ r. ⌜ Least a b r ⌝ }
 {
@@ -18,14 +24,14 @@ fn least(a: usize, b: usize) -> usize
 }
 
 // The 70 columns 10-79: blanks, then filled from the line as far as it goes.
-pub fn kept_of(line: &[u8]) -> [u8; 70]
+pub fn kept_of(line: &[u8]) -> [u8; KEPT_COLUMNS]
     ensures { λ r. ⌜ r ≡ cells (now (line .entry)) 9 70 ⌝ }
 {
-    let mut kept = [b' '; 70];
-    let end = least(line.len(), 79);
-    let mut i = 9;
+    let mut kept = [b' '; KEPT_COLUMNS];
+    let end = least(line.len(), KEPT_END);
+    let mut i = BEFORE_KEPT;
     while i < end {
-        kept[i - 9] = line[i];
+        kept[i - BEFORE_KEPT] = line[i];
         i += 1;
     }
     kept
@@ -109,7 +115,7 @@ fn is_birth(line: &[u8], from: usize) -> bool
     is_date(line, from)
 }
 
-fn kept_gaps_blank(kept: [u8; 70]) -> bool
+fn kept_gaps_blank(kept: [u8; KEPT_COLUMNS]) -> bool
     ensures { λ r. ⌜ r ≡ elseBlank (keptField .0) keptFields (inLine kept) ⌝ }
 {
     if kept[4] != b' ' {
@@ -128,7 +134,7 @@ fn kept_gaps_blank(kept: [u8; 70]) -> bool
 }
 
 // Sex, title, rating and birth date in the kept columns, and blanks between the fields.
-pub fn is_kept(kept: [u8; 70]) -> bool
+pub fn is_kept(kept: [u8; KEPT_COLUMNS]) -> bool
     ensures { λ r. ⌜ r ≡ isKept kept ⌝ }
 {
     if !is_sex(kept[0]) {

@@ -21,7 +21,7 @@ ghost use Rattle.law.proofs.RecordsRead.{textOf, roundsOfRow, colourOf, acceler
 ghost use Rattle.fields.specs.Said.{orBadField};
 ghost use Rattle.records.specs.Records.{kindSays, orNotListed, textSays, roundsSays, initialSays, spanIn, spanSays, acceleratedSays};
 
-const MOST_ROUNDS: u32 = 20;
+pub const MOST_ROUNDS: u32 = 20;
 
 pub const MOST_POINTS: u32 = 999;
 

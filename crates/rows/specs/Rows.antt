@@ -34,6 +34,7 @@ noSlots = record { good = false; ids = replicate 20 0; colours = replicate 20 0;
 unfoldable pub theSlots : List law.Slot → Slots
 theSlots slots = record { good = true; ids = idsOf slots; colours = coloursOf slots; results = resultsOf slots; used = usedOf slots }
 
+-- a flag in place of an enum: off is 7
 abbrev pub SlotsSay : Option (List law.Slot) → Slots → Type 0
 SlotsSay o r = Stands (λ (x : Slots). x .good) noSlots theSlots o r
 
@@ -66,5 +67,6 @@ theRow p =
       used = usedOf (p .slots);
     }
 
+-- a flag in place of an enum: off is 7
 abbrev pub RowSays : Option law.PlayerLine → Row → Type 0
 RowSays o r = Stands (λ (x : Row). x .good) noRow theRow o r

@@ -1,7 +1,9 @@
 // A 001 line, by value: its player's numbers, its kept columns and its rounds. A line against its rule is refusal 7, which Bad, and not good, stands for.
+use cells::KEPT_COLUMNS;
 use fields::Number;
 use fields::Points;
 use records::MOST_RANK;
+use records::MOST_ROUNDS;
 use records::MOST_START;
 use types::Rank;
 use types::StartNumber;
@@ -15,6 +17,9 @@ ghost use Rattle.law.proofs.RecordsRead.{isUsed, slotOf, slotsOf, playerOf};
 ghost use Rattle.fields.specs.Said.{orBadField};
 ghost use Rattle.rows.specs.Rows.{slotSays, noSlots, SlotsSay, noRow, RowSays};
 
+// The rounds that a 001 line has columns for.
+const ROUNDS: usize = MOST_ROUNDS as usize;
+
 // A round's columns on a 001 line: the id, 0 where it is blank, the colour as it stands, the result as a capital, and whether a byte of them is not blank.
 enum Slot {
     Read(u32, u8, u8, bool),
@@ -24,10 +29,10 @@ enum Slot {
 // The rounds of a 001 line, the r-th in cell r - 1; zeros where they are not good.
 struct Slots {
     good: bool,
-    ids: [u32; 20],
-    colours: [u8; 20],
-    results: [u8; 20],
-    used: [bool; 20],
+    ids: [u32; ROUNDS],
+    colours: [u8; ROUNDS],
+    results: [u8; ROUNDS],
+    used: [bool; ROUNDS],
 }
 
 // A 001 line; zeros where it is not good.
@@ -36,11 +41,11 @@ pub struct Row {
     pub start: StartNumber,
     pub rank: Rank,
     pub points: u32,
-    pub kept: [u8; 70],
-    pub ids: [u32; 20],
-    pub colours: [u8; 20],
-    pub results: [u8; 20],
-    pub used: [bool; 20],
+    pub kept: [u8; KEPT_COLUMNS],
+    pub ids: [u32; ROUNDS],
+    pub colours: [u8; ROUNDS],
+    pub results: [u8; ROUNDS],
+    pub used: [bool; ROUNDS],
 }
 
 fn capital(c: u8) -> u8
@@ -112,22 +117,22 @@ fn no_slots() -> Slots
 {
     Slots {
         good: false,
-        ids: [0; 20],
-        colours: [0; 20],
-        results: [0; 20],
-        used: [false; 20],
+        ids: [0; ROUNDS],
+        colours: [0; ROUNDS],
+        results: [0; ROUNDS],
+        used: [false; ROUNDS],
     }
 }
 
 fn slots_of(line: &[u8]) -> Slots
     ensures { λ r. ⌜ SlotsSay (slotsOf (now (line .entry))) r ⌝ }
 {
-    let mut ids = [0u32; 20];
-    let mut colours = [0u8; 20];
-    let mut results = [0u8; 20];
-    let mut used = [false; 20];
+    let mut ids = [0u32; ROUNDS];
+    let mut colours = [0u8; ROUNDS];
+    let mut results = [0u8; ROUNDS];
+    let mut used = [false; ROUNDS];
     let mut i = 0;
-    while i < 20 {
+    while i < ROUNDS {
         let Slot::Read(id, colour, result, is) = slot_of(line, i + 1) else {
             return no_slots();
         };
@@ -164,7 +169,7 @@ fn rounds_else_blank(line: &[u8]) -> bool
     ensures { λ r. ⌜ r ≡ elseBlank 90 (flat roundFields everyRound) (now (line .entry)) ⌝ }
 {
     let mut i = 0;
-    while i < 20 {
+    while i < ROUNDS {
         if !round_else_blank(line, 89 + 10 * i) {
             return false;
         }
@@ -199,11 +204,11 @@ fn no_row() -> Row
         start: StartNumber(0),
         rank: Rank(0),
         points: 0,
-        kept: [0; 70],
-        ids: [0; 20],
-        colours: [0; 20],
-        results: [0; 20],
-        used: [false; 20],
+        kept: [0; KEPT_COLUMNS],
+        ids: [0; ROUNDS],
+        colours: [0; ROUNDS],
+        results: [0; ROUNDS],
+        used: [false; ROUNDS],
     }
 }
 

@@ -29,6 +29,7 @@ abbrev pub valueSays : Value → Said (ℕ × ℕ)
 valueSays (value.Of letter points) = says (letter, points)
 valueSays value.Bad = refuses 7
 
+-- a slot that was read, with the place of its letter
 abbrev pub placed : ℕ × ℕ → ℕ × ℕ
 placed v = (letterPlace (v .0), v .1)
 
@@ -54,6 +55,7 @@ noneGiven = record { good = false; filled = false; seen = replicate 6 false; val
 unfoldable pub someGiven : List (ℕ × ℕ) → Given
 someGiven given = record { good = true; filled = not (isEmpty given); seen = seenIn given; values = valuesOf given }
 
+-- a flag in place of an enum: off is 7
 abbrev pub GivenSays : Option (List (ℕ × ℕ)) → Given → Type 0
 GivenSays o r = Stands (λ (x : Given). x .good) noneGiven someGiven o r
 
@@ -64,5 +66,6 @@ noneScored = record { good = false; scoring = record { values = law.values law.d
 abbrev pub someScored : List (ℕ × ℕ) → Scored
 someScored given = record { good = true; scoring = record { values = law.values (law.scoringOf given) } }
 
+-- a flag in place of an enum: off is 7
 abbrev pub ScoredSays : Option (List (ℕ × ℕ)) → Scored → Type 0
 ScoredSays o r = Stands (λ (x : Scored). x .good) noneScored someScored o r
