@@ -1,5 +1,5 @@
 -- What a reader's contract says in the statement's terms. Assumes nothing.
-use mathlib.Core.Path.{_≡_, refl, sym, ap, subst, _∙_}
+use mathlib.Core.Path.{_≡_, refl, sym, subst}
 use mathlib.Core.Logic.{inl, inr}
 use mathlib.Core.Option.{Option, none, some}
 use mathlib.Core.List.{List}
@@ -7,7 +7,7 @@ use Prim.Native.Nat.{ℕ}
 use Rattle.kit.specs.Decides.{Decides, to}
 use Rattle.kit.proofs.Decided.{refused}
 use Rattle.law.proofs.FieldsRead as law
-use Rattle.fields.specs.Said.{Said, says, refuses, orBadField, Means}
+use Rattle.fields.specs.Said.{Said, orBadField, Means}
 use Rattle.fields.specs.Fields.{orBlank, SpellsNumberOrBlanks}
 
 -- a number field, of which blanks are said too

@@ -1,6 +1,5 @@
 -- From what is said of a line's kind back to its kind. Assumes nothing.
 use mathlib.Core.Path.{_≡_, refl, sym, ap, _∙_}
-use Prim.Native.Nat.{ℕ}
 use Rattle.law.specs.Items.{Kind, passed-over, kept-text, 142-record, 152-record, 162-record, 250-record, 001-record, unlisted}
 use Rattle.fields.specs.Said.{Said, says, refuses}
 use Rattle.records.specs.Records.{orNotListed}
