@@ -3,3 +3,4 @@ pub mod Turns
 pub mod Trims
 pub mod Means
 pub mod Cases
+pub mod Keys

@@ -1,4 +1,4 @@
--- What the field readers answer: each case of an enum, by the function that decides the field, and in the statement's terms. Bad is refusal 7.
+-- What the field readers answer: document 01's number and values for each case of their enums.
 use mathlib.Core.Path.{_≡_}
 use mathlib.Core.Bool.{true}
 use mathlib.Core.Option.{Option, none, some}
@@ -6,7 +6,8 @@ use mathlib.Core.List.{List}
 use Prim.Native.Nat.{ℕ}
 use Rattle.kit.specs.Lists.{all}
 use Rattle.law.specs.Columns.{isBlank}
-use Rattle.law.specs.Fields.{SpellsNumber, SpellsPoints, SpellsLeading, SpellsNumberOrBlank}
+use Rattle.law.specs.Fields.{SpellsNumber}
+use Rattle.law.specs.Refusals.{lineFaultNumber, bad-field}
 use Rattle.law.proofs.FieldsRead as law
 use Rattle.fields.specs.declared.Number.{Number}
 use Rattle.fields.specs.declared.Number.the-variants as number
@@ -14,30 +15,30 @@ use Rattle.fields.specs.declared.Points.{Points}
 use Rattle.fields.specs.declared.Points.the-variants as points
 use Rattle.fields.specs.declared.Leading.{Leading}
 use Rattle.fields.specs.declared.Leading.the-variants as leading
+use Rattle.fields.specs.Said.{Said, says, refuses}
 
-abbrev pub asNumber : law.Number → Number
-asNumber (law.value n) = number.Value n
-asNumber law.none-there = number.Blank
-asNumber law.bad = number.Bad
+-- a number, or blanks
+abbrev pub numberSays : Number → Said (Option ℕ)
+numberSays (number.Value n) = says (some n)
+numberSays number.Blank = says none
+numberSays number.Bad = refuses 7
 
-abbrev pub asPoints : Option ℕ → Points
-asPoints (some n) = points.Tenths n
-asPoints none = points.Bad
+-- tenths
+abbrev pub pointsSays : Points → Said ℕ
+pointsSays (points.Tenths n) = says n
+pointsSays points.Bad = refuses 7
 
-abbrev pub asLeading : Option ℕ → Leading
-asLeading (some n) = leading.Value n
-asLeading none = leading.Bad
+abbrev pub leadingSays : Leading → Said ℕ
+leadingSays (leading.Value n) = says n
+leadingSays leading.Bad = refuses 7
 
--- ---- what each case says of the field
-abbrev pub NumberMeans : List ℕ → Number → Type 0
-NumberMeans field (number.Value n) = SpellsNumber field n
-NumberMeans field number.Blank = all isBlank field ≡ true
-NumberMeans field number.Bad = (n : ℕ) → SpellsNumberOrBlank field n → ⊥
+-- what the statement's function decides of a number field
+abbrev pub orBlank : law.Number → Said (Option ℕ)
+orBlank (law.value n) = says (some n)
+orBlank law.none-there = says none
+orBlank law.bad = refuses (lineFaultNumber bad-field)
 
-abbrev pub PointsMeans : List ℕ → Points → Type 0
-PointsMeans field (points.Tenths n) = SpellsPoints field n
-PointsMeans field points.Bad = (n : ℕ) → SpellsPoints field n → ⊥
-
-abbrev pub LeadingMeans : List ℕ → Leading → Type 0
-LeadingMeans field (leading.Value n) = SpellsLeading field n
-LeadingMeans field leading.Bad = (n : ℕ) → SpellsLeading field n → ⊥
+-- ---- a number field in the statement's terms
+abbrev pub SpellsNumberOrBlanks : List ℕ → Option ℕ → Type 0
+SpellsNumberOrBlanks field (some n) = SpellsNumber field n
+SpellsNumberOrBlanks field none = all isBlank field ≡ true

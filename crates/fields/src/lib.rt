@@ -1,14 +1,17 @@
 // The fields of a line: what stands in some of its columns, read as document 01 says. A field is given by the number of columns before it and by its
-// width; columns past the end of the line read as blank. A field reader answers an enum, whose case for a field against its rule is Bad.
+// width; columns past the end of the line read as blank. A field reader answers an enum, whose case for a field against its rule is Bad: refusal 7.
 ghost use mathlib.Core.Path.{_≡_};
+ghost use mathlib.Core.Option.{some};
 ghost use mathlib.Core.List.{[], _∷_};
 ghost use Prim.Native.Nat.{_+_, _-_, _≤_, _<_};
 ghost use lib.ListN.{length, getD, drop};
-ghost use Rattle.kit.specs.Lists.{all, same};
+ghost use Rattle.kit.specs.Lists.{all, between, same};
+ghost use Rattle.kit.specs.Decides.{keep, to};
 ghost use Rattle.law.specs.Columns.{blank, isBlank, cells};
 ghost use Rattle.law.specs.Fields.{isDigit, digitValue, isTens};
-ghost use Rattle.law.proofs.FieldsRead.{numberOf, digitsFrom, arePoints, pointsOf, leadingFrom, leadingOf, trim};
-ghost use Rattle.fields.specs.Fields.{asNumber, asPoints, asLeading};
+ghost use Rattle.law.proofs.FieldsRead.{numberOf, theNumber, numberOr0, digitsFrom, arePoints, pointsOf, leadingFrom, leadingOf, trim};
+ghost use Rattle.fields.specs.Said.{orBadField};
+ghost use Rattle.fields.specs.Fields.{numberSays, orBlank, pointsSays, leadingSays};
 
 // What a number field holds.
 pub enum Number {
@@ -58,7 +61,7 @@ fn digit_value(c: u8) -> u32
 // The digits in all columns of a field.
 fn digits_at(line: &[u8], from: usize, width: usize) -> Number
     requires { ⌜ (from ≤ 65544) × (width ≤ 9) ⌝ }
-    ensures { λ r. ⌜ r ≡ asNumber (digitsFrom 0 (cells (now (line .entry)) from width)) ⌝ }
+    ensures { λ r. ⌜ numberSays r ≡ orBlank (digitsFrom 0 (cells (now (line .entry)) from width)) ⌝ }
 {
     let mut n: u32 = 0;
     let mut i = 0;
@@ -76,7 +79,7 @@ fn digits_at(line: &[u8], from: usize, width: usize) -> Number
 // A number field: blanks, then digits up to its last column.
 pub fn number_at(line: &[u8], from: usize, width: usize) -> Number
     requires { ⌜ (from ≤ 65535) × (width ≤ 9) ⌝ }
-    ensures { λ r. ⌜ r ≡ asNumber (numberOf (cells (now (line .entry)) from width)) ⌝ }
+    ensures { λ r. ⌜ numberSays r ≡ orBlank (numberOf (cells (now (line .entry)) from width)) ⌝ }
 {
     let mut i = 0;
     while i < width {
@@ -86,6 +89,39 @@ pub fn number_at(line: &[u8], from: usize, width: usize) -> Number
         i += 1;
     }
     Number::Blank
+}
+
+// A number field of four columns or blank, which is 0.
+pub fn number_or_blank(line: &[u8], from: usize) -> Number
+    requires { ⌜ from ≤ 65535 ⌝ }
+    ensures { λ r. ⌜ numberSays r ≡ orBadField (to some (numberOr0 (numberOf (cells (now (line .entry)) from 4)))) ⌝ }
+{
+    let n = number_at(line, from, 4);
+    match n {
+        Number::Blank => Number::Value(0),
+        _ => n,
+    }
+}
+
+// Whether a number is 1 to the most that there may be.
+pub fn is_counted(n: u32, most: u32) -> bool
+    ensures { λ r. ⌜ r ≡ between 1 most n ⌝ }
+{
+    1 <= n && n <= most
+}
+
+// A number field of four columns whose number is 1 to the most that there may be.
+pub fn counted_at(line: &[u8], from: usize, most: u32) -> Number
+    requires { ⌜ from ≤ 65535 ⌝ }
+    ensures { λ r. ⌜ numberSays r ≡ orBadField (to some (keep (between 1 most) (theNumber (numberOf (cells (now (line .entry)) from 4))))) ⌝ }
+{
+    let Number::Value(n) = number_at(line, from, 4) else {
+        return Number::Bad;
+    };
+    if !is_counted(n, most) {
+        return Number::Bad;
+    }
+    Number::Value(n)
 }
 
 fn is_tens(c: u8) -> bool
@@ -112,7 +148,7 @@ fn are_points(a: u8, b: u8, c: u8, d: u8) -> bool
 // A points field, which has four columns.
 pub fn points_at(line: &[u8], from: usize) -> Points
     requires { ⌜ from ≤ 65535 ⌝ }
-    ensures { λ r. ⌜ r ≡ asPoints (pointsOf (cells (now (line .entry)) from 4)) ⌝ }
+    ensures { λ r. ⌜ pointsSays r ≡ orBadField (pointsOf (cells (now (line .entry)) from 4)) ⌝ }
 {
     let a = column(line, from);
     let b = column(line, from + 1);
@@ -156,7 +192,7 @@ pub fn blank_from(line: &[u8], i: usize) -> bool
 // Digits, of which there may be none, then blanks.
 fn leading_from(line: &[u8], from: usize, width: usize) -> Leading
     requires { ⌜ (from ≤ 65535) × (width ≤ 9) ⌝ }
-    ensures { λ r. ⌜ r ≡ asLeading (leadingFrom 0 (cells (now (line .entry)) from width)) ⌝ }
+    ensures { λ r. ⌜ leadingSays r ≡ orBadField (leadingFrom 0 (cells (now (line .entry)) from width)) ⌝ }
 {
     let mut n: u32 = 0;
     let mut i = 0;
@@ -177,7 +213,7 @@ fn leading_from(line: &[u8], from: usize, width: usize) -> Leading
 // Digits from the first column of a field on, then blanks.
 pub fn leading_at(line: &[u8], from: usize, width: usize) -> Leading
     requires { ⌜ (from ≤ 65535) × (width ≤ 9) ⌝ }
-    ensures { λ r. ⌜ r ≡ asLeading (leadingOf (cells (now (line .entry)) from width)) ⌝ }
+    ensures { λ r. ⌜ leadingSays r ≡ orBadField (leadingOf (cells (now (line .entry)) from width)) ⌝ }
 {
     if width == 0 {
         return Leading::Bad;

@@ -178,7 +178,7 @@ fn is_clean_kept(kept: [u8; KEPT_COLUMNS]) -> bool
     ensures { λ r. ⌜ Told ((all allowed kept ≡ true) × SpellsKept kept) r ⌝ }
 {
     let clean = lines::all_allowed(&kept);
-    clean & records::is_kept(kept)
+    clean & kept_columns::is_kept(kept)
 }
 
 // Whether the first n players have kept columns.

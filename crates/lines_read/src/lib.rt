@@ -11,7 +11,7 @@ ghost use Rattle.tables.specs.Lent.{lent, before, after};
 ghost use Rattle.steps.specs.Counts.{asCount, Small};
 ghost use Rattle.lines_read.specs.Core.{refusedCore, acceptedCore, LinesRead};
 use checks::START_CELLS;
-use records::Scoring;
+use scorings::Scoring;
 use steps::ACCELERATIONS;
 use steps::Counts;
 use steps::TEXT_CODES;

@@ -1,7 +1,6 @@
 -- What is stored of a player's rounds is what join stores of its slots. Assumes nothing.
 use mathlib.Core.Path.{_≡_, refl, sym, ap, ap₂, _∙_}
 use mathlib.Core.Bool.{Bool, true, false, cond}
-use mathlib.Core.Option.{some}
 use mathlib.Core.List.{List, [], _∷_, map}
 use Prim.Native.Nat.{ℕ, zero, suc, _+_, _*_, _≤_, _<_}
 use Prim.Native.Char.{code}
@@ -18,8 +17,8 @@ use Rattle.law.specs.Entries.{noEntry}
 use Rattle.law.specs.Tables.{cellOf}
 use Rattle.join.specs.Grid.{putRow}
 use Rattle.join.specs.Store.{Nine, storePlayer, rawCell, rawCells}
-use Rattle.records.specs.Players.{asRow, idsOf, coloursOf, resultsOf, usedOf}
-use Rattle.records.specs.declared.Row.{Row}
+use Rattle.rows.specs.Rows.{theRow, idsOf, coloursOf, resultsOf, usedOf}
+use Rattle.rows.specs.declared.Row.{Row}
 use Rattle.tables.specs.Lent.{nine}
 use Rattle.players.specs.Stored.{rawId, rawLetter}
 
@@ -98,24 +97,24 @@ nine-≡ : {a0 a1 a2 a3 a4 a5 a6 a7 a8 b0 b1 b2 b3 b4 b5 b6 b7 b8 : List ℕ} �
     → nine a0 a1 a2 a3 a4 a5 a6 a7 a8 ≡ nine b0 b1 b2 b3 b4 b5 b6 b7 b8
 nine-≡ e0 e1 e2 e3 e4 e5 e6 e7 e8 = cc
 
-module _ (p : PlayerLine) (n ln : ℕ) (row : Row) (e : row ≡ asRow (some p)) (t : Nine) where
+module _ (p : PlayerLine) (n ln : ℕ) (row : Row) (e : row ≡ theRow p) (t : Nine) where
   own-ids : (ids : List ℕ) → ((j : ℕ) → j < mostRounds → getD ids j 0 ≡ rawId (getD (row .ids) j 0) (getD (row .used) j false))
       → putRow cellOf (t .opponents) n ids mostRounds ≡ putRow cellOf (t .opponents) n (map (λ e. e .id) (rawCells p)) 20
-  unfolding asRow
+  unfolding theRow
   own-ids ids says =
       put-as cellOf (t .opponents) n ids (map (λ e. e .id) (rawCells p)) mostRounds
       (λ j l. says j l ∙ ap (λ (r : Row). rawId (getD (r .ids) j 0) (getD (r .used) j false)) e ∙ ids-at (p .slots) j)
 
   own-colours : (v : List ℕ) → ((j : ℕ) → j < mostRounds → getD v j 0 ≡ rawLetter (code "-") (getD (row .ids) j 0) (getD (row .colours) j 0) (getD (row .used) j false))
       → putRow cellOf (t .colours) n v mostRounds ≡ putRow cellOf (t .colours) n (map (λ e. e .colour) (rawCells p)) 20
-  unfolding asRow
+  unfolding theRow
   own-colours v says =
       put-as cellOf (t .colours) n v (map (λ e. e .colour) (rawCells p)) mostRounds
       (λ j l. says j l ∙ ap (λ (r : Row). rawLetter (code "-") (getD (r .ids) j 0) (getD (r .colours) j 0) (getD (r .used) j false)) e ∙ colours-at (p .slots) j)
 
   own-results : (v : List ℕ) → ((j : ℕ) → j < mostRounds → getD v j 0 ≡ rawLetter (code "Z") (getD (row .ids) j 0) (getD (row .results) j 0) (getD (row .used) j false))
       → putRow cellOf (t .results) n v mostRounds ≡ putRow cellOf (t .results) n (map (λ e. e .result) (rawCells p)) 20
-  unfolding asRow
+  unfolding theRow
   own-results v says =
       put-as cellOf (t .results) n v (map (λ e. e .result) (rawCells p)) mostRounds
       (λ j l. says j l ∙ ap (λ (r : Row). rawLetter (code "Z") (getD (r .ids) j 0) (getD (r .results) j 0) (getD (r .used) j false)) e ∙ results-at (p .slots) j)
@@ -129,7 +128,7 @@ module _ (p : PlayerLine) (n ln : ℕ) (row : Row) (e : row ≡ asRow (some p)) 
       → x6 ≡ putRow cellOf (t .results) n results mostRounds
       → ((j : ℕ) → j < mostRounds → getD results j 0 ≡ rawLetter (code "Z") (getD (row .ids) j 0) (getD (row .results) j 0) (getD (row .used) j false))
       → x8 ≡ set (t .lines) n ln → nine x0 x1 x2 x3 x4 x5 x6 (t .text) x8 ≡ storePlayer p n ln t
-  unfolding storePlayer asRow
+  unfolding storePlayer theRow
   player-stored ids colours results e0 e1 e2 e3 e4 says-ids e5 says-colours e6 says-results e8 =
       let u0 = e0 ∙ ap (λ (r : Row). set (t .starts) n (r .start .0)) e in
       let u1 = e1 ∙ ap (λ (r : Row). set (t .points) n (r .points)) e in

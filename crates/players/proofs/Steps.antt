@@ -15,8 +15,9 @@ use Rattle.law.specs.Players.{PlayerLine}
 use Rattle.law.proofs.RecordsRead.{playerOf, player-line}
 use Rattle.join.specs.Run.{Way, on, stop}
 use Rattle.join.specs.Store.{Nine, Count, State, state, placeOf, storePlayer, countPlayer, stepPlayer}
-use Rattle.records.specs.declared.Row.{Row}
-use Rattle.records.specs.Players.{asRow}
+use Rattle.fields.proofs.Cases.{standing, stands-is}
+use Rattle.rows.specs.declared.Row.{Row}
+use Rattle.rows.specs.Rows.{noRow, theRow, RowSays}
 use Rattle.checks.specs.declared.Placed.{Placed}
 use Rattle.checks.specs.declared.Placed.the-variants.{At, Nobody}
 use Rattle.checks.specs.Index.{asPlaced}
@@ -28,35 +29,38 @@ use Rattle.checks.proofs.Indexes.{index-more, low-more}
 pub record Read (line : List ℕ) (r : Row) : Type 0 where
   pub player : PlayerLine
   pub is : playerOf line ≡ some player
-  pub row-is : r ≡ asRow (some player)
+  pub row-is : r ≡ theRow player
   pub start-is : r .start .0 ≡ player .start
   pub low : r .start .0 ≤ mostStart
 
-pub read-row : (line : List ℕ) (r : Row) → r ≡ asRow (playerOf line) → not (r .good) ≡ false → Read line r
-unfolding asRow
+row-of : (o : Option PlayerLine) (r : Row) → RowSays o r → r ≡ standing (λ (x : Row). x .good) noRow theRow o
+row-of o r s = stands-is (λ (x : Row). x .good) noRow theRow o r s
+
+pub read-row : (line : List ℕ) (r : Row) → RowSays (playerOf line) r → not (r .good) ≡ false → Read line r
+unfolding noRow theRow
 read-row line r e good = go (playerOf line) refl
   where
     go : (o : Option PlayerLine) → playerOf line ≡ o → Read line r
-    go none q = clash (sym good ∙ ap (λ (x : Row). not (x .good)) (e ∙ ap asRow q))
+    go none q = clash (sym good ∙ ap (λ (x : Row). not (x .good)) (row-of (playerOf line) r e ∙ ap (standing (λ (x : Row). x .good) noRow theRow) q))
     go (some p) q =
-        let row-is : r ≡ asRow (some p) = e ∙ ap asRow q in
+        let row-is : r ≡ theRow p = row-of (playerOf line) r e ∙ ap (standing (λ (x : Row). x .good) noRow theRow) q in
         let start-is : r .start .0 ≡ p .start = ap (λ (x : Row). x .start .0) row-is in
         record { player = p; is = q; row-is = row-is; start-is = start-is; low = subst (λ (n : ℕ). n ≤ mostStart) (sym start-is) (within 1 mostStart (p .start) (player-line .sound line p q .start-in) .1) }
 
-no-row : (line : List ℕ) (r : Row) → r ≡ asRow (playerOf line) → not (r .good) ≡ true → playerOf line ≡ none
-unfolding asRow
+no-row : (line : List ℕ) (r : Row) → RowSays (playerOf line) r → not (r .good) ≡ true → playerOf line ≡ none
+unfolding noRow theRow
 no-row line r e bad = go (playerOf line) refl
   where
     go : (o : Option PlayerLine) → playerOf line ≡ o → playerOf line ≡ none
     go none q = q
-    go (some p) q = clash (sym (ap (λ (x : Row). not (x .good)) (e ∙ ap asRow q)) ∙ bad)
+    go (some p) q = clash (sym (ap (λ (x : Row). not (x .good)) (row-of (playerOf line) r e ∙ ap (standing (λ (x : Row). x .good) noRow theRow) q)) ∙ bad)
 
 -- ---- the step
 module _ (ln : ℕ) (c : Count) (t : Nine) (line : List ℕ) (r : Row) where
   abbrev s : State
   s = state ln c t
 
-  pub player-bad : r ≡ asRow (playerOf line) → not (r .good) ≡ true → stop 7 s ≡ stepPlayer (playerOf line) s
+  pub player-bad : RowSays (playerOf line) r → not (r .good) ≡ true → stop 7 s ≡ stepPlayer (playerOf line) s
   unfolding stepPlayer
   player-bad e bad = rw (no-row line r e bad) refl
 

@@ -2,7 +2,6 @@
 // afterwards, and that the step is join's.
 ghost use mathlib.Core.Path.{_≡_};
 ghost use mathlib.Core.Bool.{false};
-ghost use mathlib.Core.Option.{some};
 ghost use mathlib.Core.List.{List};
 ghost use Prim.Native.Nat.{ℕ, _+_, _<_, _≤_};
 ghost use lib.ListN.{getD};
@@ -10,14 +9,14 @@ ghost use Rattle.law.specs.Sizes.{mostPlayers, mostRounds};
 ghost use Rattle.law.specs.Players.{PlayerLine};
 ghost use Rattle.law.proofs.RecordsRead.{playerOf};
 ghost use Rattle.join.specs.Store.{state, storePlayer, countPlayer, stepPlayer};
-ghost use Rattle.records.specs.Players.{asRow};
+ghost use Rattle.rows.specs.Rows.{theRow};
 ghost use Rattle.tables.specs.Lent.{nine};
 ghost use Rattle.checks.specs.Laws.{Indexed};
 ghost use Rattle.steps.specs.Counts.{asCount, went};
 ghost use Rattle.players.specs.Stored.{rawId, rawLetter, LongEight};
 use checks::Placed;
 use checks::START_CELLS;
-use records::Row;
+use rows::Row;
 use steps::Counts;
 use steps::Stepped;
 use tables::MOST_ROUNDS;
@@ -98,7 +97,7 @@ pub fn store_player(
 )
     requires { ⌜ place .0 < mostPlayers ⌝ }
     requires { ⌜ LongEight (now starts) (now points) (now ranks) (now kept) (now opponents) (now colours) (now results) (now lines) ⌝ }
-    ensures { λ _. ⌜ ((p : PlayerLine) (text : List ℕ) → row ≡ asRow (some p) → nine (now (starts .exit)) (now (points .exit)) (now (ranks .exit)) (now (kept .exit)) (now (opponents .exit)) (now (colours .exit)) (now (results .exit)) text (now (lines .exit)) ≡ storePlayer p (place .0) (line .0) (nine (now (starts .entry)) (now (points .entry)) (now (ranks .entry)) (now (kept .entry)) (now (opponents .entry)) (now (colours .entry)) (now (results .entry)) text (now (lines .entry)))) ⌝ }
+    ensures { λ _. ⌜ ((p : PlayerLine) (text : List ℕ) → row ≡ theRow p → nine (now (starts .exit)) (now (points .exit)) (now (ranks .exit)) (now (kept .exit)) (now (opponents .exit)) (now (colours .exit)) (now (results .exit)) text (now (lines .exit)) ≡ storePlayer p (place .0) (line .0) (nine (now (starts .entry)) (now (points .entry)) (now (ranks .entry)) (now (kept .entry)) (now (opponents .entry)) (now (colours .entry)) (now (results .entry)) text (now (lines .entry)))) ⌝ }
 {
     tables::store_number(starts, place, row.start.0);
     tables::store_number(points, place, row.points);
@@ -144,7 +143,7 @@ pub fn step_player(
     requires { ⌜ Indexed (now starts) (c .players) (now index) ⌝ }
     ensures { λ r. ⌜ ((ln : ℕ) (text : List ℕ) → number .0 ≡ ln + 1 → went ln r (nine (now (starts .exit)) (now (points .exit)) (now (ranks .exit)) (now (kept .exit)) (now (opponents .exit)) (now (colours .exit)) (now (results .exit)) text (now (lines .exit))) ≡ stepPlayer (playerOf (now (line .entry))) (state ln (asCount c) (nine (now (starts .entry)) (now (points .entry)) (now (ranks .entry)) (now (kept .entry)) (now (opponents .entry)) (now (colours .entry)) (now (results .entry)) text (now (lines .entry))))) × Indexed (now (starts .exit)) (r .counts .players) (now (index .exit)) ⌝ }
 {
-    let row = records::player_of(line);
+    let row = rows::player_of(line);
     if !row.good {
         return Stepped {
             fault: 7,

@@ -1,29 +1,16 @@
 -- 250: the line by its fields and by its other columns. Assumes nothing.
-use mathlib.Core.Path.{_≡_, refl, sym, ap, ap₂, _∙_}
-use mathlib.Core.Bool.{Bool, true, false}
-use mathlib.Core.Option.{Option, none, some}
+use mathlib.Core.Path.{_≡_, refl, ap, _∙_}
+use mathlib.Core.Bool.{Bool, true}
+use mathlib.Core.Option.{Option, some}
 use mathlib.Core.List.{List}
 use Prim.Native.Nat.{ℕ, _+_}
-use native.Mathlib.Omega.{arith}
 use Rattle.kit.specs.Decides.{pair, to, when, keep}
 use Rattle.types.specs.declared.Acceleration.{Acceleration}
 use Rattle.law.specs.Columns.{cells, elseBlank, afterCode}
 use Rattle.law.specs.Accelerations.{isAcceleration, addedField, accelerationFields}
 use Rattle.law.proofs.FieldsRead.{numberOf, theNumber}
 use Rattle.law.proofs.RecordsRead.{pointsIn, makeAcceleration, accelerationOf}
-use Rattle.records.specs.declared.Span.the-variants as span
-use Rattle.records.specs.Records.{spanIn, asSpan}
-
-pub span-there : (o : Option (ℕ × ℕ)) (a b : ℕ) → asSpan o ≡ span.FromTo a b → o ≡ some (a, b)
-span-there (some s) a b e =
-    let u : s .0 ≡ a = cc in
-    let v : s .1 ≡ b = cc in
-    ap₂ (λ (x y : ℕ). some (x, y)) u v
-span-there none a b e = let z : _≡_ {A = ℕ} 0 1 = cc in absurd (omega arith)
-
-pub no-span : (o : Option (ℕ × ℕ)) → asSpan o ≡ span.Bad → o ≡ none
-no-span (some s) e = let z : _≡_ {A = ℕ} 0 1 = cc in absurd (omega arith)
-no-span none e = refl
+use Rattle.records.specs.Records.{spanIn}
 
 pub span-by : (row : List ℕ) (i w : ℕ) (first last : Option ℕ) → theNumber (numberOf (cells row i w)) ≡ first → theNumber (numberOf (cells row (i + w + 1) w)) ≡ last
     → spanIn row i w ≡ pair first last

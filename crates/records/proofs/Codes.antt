@@ -22,7 +22,7 @@ use Rattle.law.proofs.FieldsRead.{trim}
 use Rattle.law.proofs.RecordsRead.{textOf}
 use Rattle.fields.proofs.Columns.{cells-three}
 use Rattle.fields.proofs.Turns.{and-true}
-use Rattle.records.proofs.Keys.{and-false, run-or}
+use Rattle.fields.proofs.Keys.{and-false, run-or}
 
 -- ---- codes with one last byte
 abbrev first-two : ℕ → ℕ → List (ℕ × ℕ) → Bool

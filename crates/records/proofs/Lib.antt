@@ -1,9 +1,4 @@
-pub mod Keys
 pub mod Codes
+pub mod Told
 pub mod Heads
 pub mod Accelerations
-pub mod ScoringSlots
-pub mod KeptColumns
-pub mod PlayerRounds
-pub mod PlayerLines
-pub mod Means

@@ -1,4 +1,1 @@
 pub mod Records
-pub mod Scoring
-pub mod Players
-pub mod Means

@@ -1,13 +1,14 @@
--- What the record readers answer: each case of an enum, by the function that decides the record. Bad is refusal 7.
-use mathlib.Core.Option.{Option, none, some}
+-- What the record readers answer: document 01's number and values for each case of their enums.
+use mathlib.Core.Option.{Option}
 use mathlib.Core.List.{List}
 use Prim.Native.Nat.{ℕ, _+_}
-use lib.ListN.{length}
 use Rattle.types.specs.declared.Acceleration.{Acceleration}
 use Rattle.kit.specs.Decides.{pair}
 use Rattle.law.specs.Columns.{cells}
 use Rattle.law.specs.Items as law
+use Rattle.law.specs.Refusals.{lineFaultNumber, not-listed}
 use Rattle.law.proofs.FieldsRead.{numberOf, theNumber}
+use Rattle.fields.specs.Said.{Said, says, refuses}
 use Rattle.records.specs.declared.Kind.{Kind}
 use Rattle.records.specs.declared.Kind.the-variants as kind
 use Rattle.records.specs.declared.Text.{Text}
@@ -21,37 +22,49 @@ use Rattle.records.specs.declared.Span.the-variants as span
 use Rattle.records.specs.declared.Accelerated.{Accelerated}
 use Rattle.records.specs.declared.Accelerated.the-variants as accelerated
 
-abbrev pub asKind : law.Kind → Kind
-asKind law.passed-over = kind.PassedOver
-asKind law.kept-text = kind.KeptText
-asKind law.142-record = kind.Rounds
-asKind law.152-record = kind.Colour
-asKind law.162-record = kind.Scoring
-asKind law.250-record = kind.Acceleration
-asKind law.001-record = kind.Player
-asKind law.unlisted = kind.Unlisted
+-- "record not listed" is 6
+abbrev pub kindSays : Kind → Said law.Kind
+kindSays kind.PassedOver = says law.passed-over
+kindSays kind.KeptText = says law.kept-text
+kindSays kind.Rounds = says law.142-record
+kindSays kind.Colour = says law.152-record
+kindSays kind.Scoring = says law.162-record
+kindSays kind.Acceleration = says law.250-record
+kindSays kind.Player = says law.001-record
+kindSays kind.Unlisted = refuses 6
 
--- the kept bytes stand at the line's front
-abbrev pub asText : Option (List ℕ) → Text
-asText (some kept) = text.Kept (length kept)
-asText none = text.Bad
+-- what the statement's function decides of a line's kind
+abbrev pub orNotListed : law.Kind → Said law.Kind
+orNotListed law.passed-over = says law.passed-over
+orNotListed law.kept-text = says law.kept-text
+orNotListed law.142-record = says law.142-record
+orNotListed law.152-record = says law.152-record
+orNotListed law.162-record = says law.162-record
+orNotListed law.250-record = says law.250-record
+orNotListed law.001-record = says law.001-record
+orNotListed law.unlisted = refuses (lineFaultNumber not-listed)
 
-abbrev pub asRounds : Option ℕ → Rounds
-asRounds (some n) = rounds.Given n
-asRounds none = rounds.Bad
+-- how many bytes are kept, which stand at the line's front
+abbrev pub textSays : Text → Said ℕ
+textSays (text.Kept n) = says n
+textSays text.Bad = refuses 7
 
-abbrev pub asInitial : Option ℕ → Initial
-asInitial (some c) = initial.Letter c
-asInitial none = initial.Bad
+abbrev pub roundsSays : Rounds → Said ℕ
+roundsSays (rounds.Given n) = says n
+roundsSays rounds.Bad = refuses 7
+
+abbrev pub initialSays : Initial → Said ℕ
+initialSays (initial.Letter c) = says c
+initialSays initial.Bad = refuses 7
 
 -- two number fields of one width with a column between them
 abbrev pub spanIn : List ℕ → ℕ → ℕ → Option (ℕ × ℕ)
 spanIn row i w = pair (theNumber (numberOf (cells row i w))) (theNumber (numberOf (cells row (i + w + 1) w)))
 
-abbrev pub asSpan : Option (ℕ × ℕ) → Span
-asSpan (some s) = span.FromTo (s .0) (s .1)
-asSpan none = span.Bad
+abbrev pub spanSays : Span → Said (ℕ × ℕ)
+spanSays (span.FromTo first last) = says (first, last)
+spanSays span.Bad = refuses 7
 
-abbrev pub asAccelerated : Option Acceleration → Accelerated
-asAccelerated (some a) = accelerated.Record a
-asAccelerated none = accelerated.Bad
+abbrev pub acceleratedSays : Accelerated → Said Acceleration
+acceleratedSays (accelerated.Record a) = says a
+acceleratedSays accelerated.Bad = refuses 7

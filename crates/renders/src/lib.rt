@@ -236,7 +236,7 @@ pub fn put_accelerations(
     next
 }
 
-// A slot of a 162 line after some blanks; `records::value_at` reads it.
+// A slot of a 162 line after some blanks; `scorings::value_at` reads it.
 fn put_value(out: &mut [u8], at: usize, gap: usize, letter: u8, points: u32) -> usize
     requires { ⌜ at + (gap + slotWide) ≤ length (now out) ⌝ }
     ensures { λ r. ⌜ Puts (valueText gap letter points) (gap + slotWide) at (now (out .entry)) (now (out .exit)) r ⌝ }
@@ -246,7 +246,7 @@ fn put_value(out: &mut [u8], at: usize, gap: usize, letter: u8, points: u32) -> 
     put_points(out, at + 1, points, b' ')
 }
 
-// 162 with the values of W D L A P X; `records::Scoring::from_line` reads it.
+// 162 with the values of W D L A P X; `scorings::Scoring::from_line` reads it.
 pub fn put_scoring(out: &mut [u8], at: usize, values: [u32; 6]) -> usize
     requires { ⌜ at + scoringWide ≤ length (now out) ⌝ }
     ensures { λ r. ⌜ Puts (scoringLine (scoringIn values)) scoringWide at (now (out .entry)) (now (out .exit)) r ⌝ }
@@ -260,7 +260,7 @@ pub fn put_scoring(out: &mut [u8], at: usize, values: [u32; 6]) -> usize
     put_value(out, at, BETWEEN_SLOTS, b'X', values[5])
 }
 
-// An opponent's start number, or zeros for a bye; `records::number_or_blank` reads it.
+// An opponent's start number, or zeros for a bye; `fields::number_or_blank` reads it.
 fn put_id(out: &mut [u8], at: usize, id: StartNumber) -> usize
     requires { ⌜ at + width (idField 1) ≤ length (now out) ⌝ }
     ensures { λ r. ⌜ Puts (idText (width (idField 1)) (id .0)) (width (idField 1)) at (now (out .entry)) (now (out .exit)) r ⌝ }
@@ -271,7 +271,7 @@ fn put_id(out: &mut [u8], at: usize, id: StartNumber) -> usize
     put_number(out, at, START_COLUMNS, id.0, b' ')
 }
 
-// One round of a 001 line; `records::slot_of` reads it.
+// One round of a 001 line; `rows::slot_of` reads it.
 fn put_entry(out: &mut [u8], at: usize, id: StartNumber, colour: u8, result: u8) -> usize
     requires { ⌜ at + entryWide ≤ length (now out) ⌝ }
     ensures { λ r. ⌜ Puts (entryText (entry (id .0) colour result)) entryWide at (now (out .entry)) (now (out .exit)) r ⌝ }
@@ -282,7 +282,7 @@ fn put_entry(out: &mut [u8], at: usize, id: StartNumber, colour: u8, result: u8)
     put_letter(out, at, result)
 }
 
-// The first rounds of the player in a place; `records::slots_of` reads them.
+// The first rounds of the player in a place; `rows::slots_of` reads them.
 fn put_entries(
     out: &mut [u8],
     at: usize,
@@ -306,7 +306,7 @@ fn put_entries(
     next
 }
 
-// A 001 line up to the rank, with the kept columns from a cell of their table on; `records::player_of` reads it.
+// A 001 line up to the rank, with the kept columns from a cell of their table on; `rows::player_of` reads it.
 fn put_head(
     out: &mut [u8],
     at: usize,
@@ -330,7 +330,7 @@ fn put_head(
     put_number(out, at, RANK_COLUMNS, rank.0, b' ')
 }
 
-// The 001 line of the player in a place; `records::player_of` reads it.
+// The 001 line of the player in a place; `rows::player_of` reads it.
 pub fn put_player(
     out: &mut [u8],
     at: usize,

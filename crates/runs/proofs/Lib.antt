@@ -1,4 +1,3 @@
-pub mod Told
 pub mod Sound
 pub mod Room
 pub mod Going

@@ -33,7 +33,7 @@ place-in a i (c ∷ l) e = go (same a c) e (place-in a (i + 1) l)
     go false e ih = let h = ih e in omega (arith, h)
 
 -- a line of kept text has one of the sixteen codes
-abbrev isText : Kind → Bool
+abbrev pub isText : Kind → Bool
 isText passed-over = false
 isText kept-text = true
 isText 142-record = false

@@ -14,9 +14,9 @@ ghost use Rattle.steps.specs.Counts.{asCount, went, placeOfCode, placeIn
 use records::Accelerated;
 use records::Initial;
 use records::Rounds;
-use records::Scored;
-use records::Scoring;
 use records::Text;
+use scorings::Scored;
+use scorings::Scoring;
 use types::Acceleration;
 use types::LineNumber;
 

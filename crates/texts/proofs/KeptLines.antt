@@ -10,6 +10,7 @@ use lib.ListN.{length, getD, take, set}
 use lib.Seq.{take-length}
 use borrow.Author.Tests.{eqb-true, eq-eqb, not-true, not-false}
 use Rattle.kit.specs.Lists.{all}
+use Rattle.kit.specs.Decides.{to}
 use Rattle.kit.proofs.Bools.{clash}
 use Rattle.kit.proofs.Decided.{no-some}
 use Rattle.law.specs.Sizes.{mostLine}
@@ -19,20 +20,22 @@ use Rattle.law.specs.Text.{textCodes, isRepeated}
 use Rattle.law.specs.Items as law
 use Rattle.law.specs.Lawful.{KeptLine}
 use Rattle.law.proofs.RecordsRead.{textOf, text-line}
+use Rattle.fields.specs.Said.{Said, says, refuses, orBadField}
 use Rattle.records.specs.declared.Kind.{Kind}
-use Rattle.records.specs.declared.Text.the-variants as text
-use Rattle.records.specs.Records.{asKind, asText}
+use Rattle.records.specs.declared.Kind.the-variants as kind
+use Rattle.records.specs.Records.{kindSays, orNotListed}
+use Rattle.records.proofs.Told.{kindSaid, said-is}
 use Rattle.join.specs.Store.{codePlace}
 use Rattle.join.proofs.Codes.{seenOf, repeated-is, seen-more}
 use Rattle.steps.proofs.Answers.{front-of, no-text}
-use Rattle.steps.proofs.Places.{is-text}
+use Rattle.steps.proofs.Places.{is-text, isText as isTextKind}
 use Rattle.texts.specs.Kept.{Told}
 use Rattle.texts.specs.Stood.{isText, StandsAfter}
 
 pub told-no : {P : Type 0} → (P → ⊥) → Told P false
 told-no h = record { sound = clash; complete = λ p. absurd (h p) }
 
-text-kind : (k : law.Kind) → isText (asKind k) ≡ true → k ≡ law.kept-text
+text-kind : (k : law.Kind) → isTextKind k ≡ true → k ≡ law.kept-text
 text-kind law.passed-over e = clash e
 text-kind law.kept-text e = refl
 text-kind law.142-record e = clash e
@@ -42,6 +45,19 @@ text-kind law.250-record e = clash e
 text-kind law.001-record e = clash e
 text-kind law.unlisted e = clash e
 
+text-said : (k : Kind) → isText k ≡ isTextKind (kindSaid (kindSays k))
+text-said kind.PassedOver = refl
+text-said kind.KeptText = refl
+text-said kind.Rounds = refl
+text-said kind.Colour = refl
+text-said kind.Scoring = refl
+text-said kind.Acceleration = refl
+text-said kind.Player = refl
+text-said kind.Unlisted = refl
+
+same-text : (k : Kind) (o : law.Kind) → kindSays k ≡ orNotListed o → isText k ≡ isTextKind o
+same-text k o e = text-said k ∙ ap (λ (s : Said law.Kind). isTextKind (kindSaid s)) e ∙ ap isTextKind (said-is o)
+
 -- ---- a line by itself
 module _ (line : List ℕ) where
   pub too-long : mostLine < length line → Told (KeptLine line) false
@@ -50,17 +66,17 @@ module _ (line : List ℕ) where
   pub not-clean : (r : Bool) → r ≡ all allowed line → not r ≡ true → Told (KeptLine line) false
   not-clean r e h = told-no (λ k. clash (sym (not-true r h) ∙ e ∙ k .clean))
 
-  pub not-listed : (r : Bool) (k : Kind) → r ≡ isText k → k ≡ asKind (law.kindOf line) → not r ≡ true → Told (KeptLine line) false
-  not-listed r k e f h = told-no (λ l. clash (sym (not-true r h) ∙ e ∙ ap isText (f ∙ ap asKind (l .listed))))
+  pub not-listed : (r : Bool) (k : Kind) → r ≡ isText k → kindSays k ≡ orNotListed (law.kindOf line) → not r ≡ true → Told (KeptLine line) false
+  not-listed r k e f h = told-no (λ l. clash (sym (not-true r h) ∙ e ∙ same-text k (law.kindOf line) f ∙ ap isTextKind (l .listed)))
 
-  pub listed : (r : Bool) (k : Kind) → r ≡ isText k → k ≡ asKind (law.kindOf line) → not r ≡ false → law.kindOf line ≡ law.kept-text
-  listed r k e f h = text-kind (law.kindOf line) (sym (e ∙ ap isText f) ∙ not-false r h)
+  pub listed : (r : Bool) (k : Kind) → r ≡ isText k → kindSays k ≡ orNotListed (law.kindOf line) → not r ≡ false → law.kindOf line ≡ law.kept-text
+  listed r k e f h = text-kind (law.kindOf line) (sym (e ∙ same-text k (law.kindOf line) f) ∙ not-false r h)
 
-  pub not-text : asText (textOf line) ≡ text.Bad → Told (KeptLine line) false
+  pub not-text : orBadField (to length (textOf line)) ≡ refuses 7 → Told (KeptLine line) false
   not-text e = told-no (λ k. no-some (sym (no-text (textOf line) e) ∙ text-line .complete line line (k .itself)))
 
   -- a line of which n bytes are kept
-  pub whole-line : (n : ℕ) → length line ≤ mostLine → all allowed line ≡ true → law.kindOf line ≡ law.kept-text → asText (textOf line) ≡ text.Kept n → Told (KeptLine line) (eqb n (length line))
+  pub whole-line : (n : ℕ) → length line ≤ mostLine → all allowed line ≡ true → law.kindOf line ≡ law.kept-text → orBadField (to length (textOf line)) ≡ says n → Told (KeptLine line) (eqb n (length line))
   whole-line n s a k e =
       let f = front-of line n e in
       record {

@@ -9,11 +9,20 @@ use Rattle.join.specs.Store.{Nine}
 use Rattle.join.specs.Check.{brokenBy}
 use Rattle.checks.specs.declared.Found.{Found}
 use Rattle.checks.specs.declared.Found.the-variants.{At}
+use Rattle.checks.specs.declared.LawKind.{LawKind}
+use Rattle.checks.specs.declared.LawKind.the-variants.{ByeOrGame, Mutual, Fitting, OneU}
 use Rattle.verdicts.specs.declared.Verdict.{Verdict}
 
 abbrev pub asVerdict : Option Refusal → Verdict
 asVerdict none = record { number = 0; line = record { 0 = 0 }; round = 0 }
 asVerdict (some q) = record { number = q .number; line = record { 0 = q .line }; round = q .round }
+
+-- document 01's number for each law
+abbrev pub lawNumber : LawKind → ℕ
+lawNumber ByeOrGame = 12
+lawNumber Mutual = 13
+lawNumber Fitting = 14
+lawNumber OneU = 15
 
 -- 12 to 15, in their order
 abbrev pub unlawfulIn : ℕ → ℕ → Nine → Option Refusal

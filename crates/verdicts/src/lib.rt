@@ -14,7 +14,7 @@ ghost use Rattle.join.specs.Store.{Nine};
 ghost use Rattle.checks.specs.Found.{asFound};
 ghost use Rattle.checks.specs.Results.{areSmall};
 ghost use Rattle.checks.specs.Laws.{Long, Indexed, asLaw, four};
-ghost use Rattle.verdicts.specs.Verdict.{asVerdict, unlawfulIn, FoundUnder};
+ghost use Rattle.verdicts.specs.Verdict.{asVerdict, lawNumber, unlawfulIn, FoundUnder};
 use checks::Found;
 use checks::LawKind;
 use checks::MOST_ACCELERATIONS;
@@ -108,10 +108,20 @@ pub fn wrong_points(
     }
 }
 
+fn law_number(kind: LawKind) -> u32
+    ensures { λ r. ⌜ r ≡ lawNumber kind ⌝ }
+{
+    match kind {
+        LawKind::ByeOrGame => 12,
+        LawKind::Mutual => 13,
+        LawKind::Fitting => 14,
+        LawKind::OneU => 15,
+    }
+}
+
 // The first turn whose entry breaks a law, refused by that law's number.
 pub fn broken(
     kind: LawKind,
-    number: u32,
     starts: &[u32],
     opponents: &[u32],
     colours: &[u8],
@@ -123,10 +133,10 @@ pub fn broken(
 ) -> Verdict
     requires { ⌜ Long (now starts) (now opponents) (now colours) (now results) × Indexed (now starts) n (now index) ⌝ }
     requires { ⌜ lineCells ≤ length (now lines) ⌝ }
-    ensures { λ r. ⌜ r ≡ asVerdict (to (atPlayer number (now (lines .entry))) (firstFrom (brokenCell (asLaw kind) n rounds (four (now (starts .entry)) (now (opponents .entry)) (now (colours .entry)) (now (results .entry)))) 0 (n * mostRounds))) ⌝ }
+    ensures { λ r. ⌜ r ≡ asVerdict (to (atPlayer (lawNumber kind) (now (lines .entry))) (firstFrom (brokenCell (asLaw kind) n rounds (four (now (starts .entry)) (now (opponents .entry)) (now (colours .entry)) (now (results .entry)))) 0 (n * mostRounds))) ⌝ }
 {
     let found = checks::first_broken(kind, starts, opponents, colours, results, index, n, rounds);
-    at_turn(number, lines, found)
+    at_turn(law_number(kind), lines, found)
 }
 
 // 12 to 15, in their order.
@@ -146,7 +156,6 @@ pub fn first_unlawful(
 {
     let game = broken(
         LawKind::ByeOrGame,
-        12,
         starts,
         opponents,
         colours,
@@ -161,7 +170,6 @@ pub fn first_unlawful(
     }
     let mutual = broken(
         LawKind::Mutual,
-        13,
         starts,
         opponents,
         colours,
@@ -176,7 +184,6 @@ pub fn first_unlawful(
     }
     let fitting = broken(
         LawKind::Fitting,
-        14,
         starts,
         opponents,
         colours,
@@ -191,7 +198,6 @@ pub fn first_unlawful(
     }
     broken(
         LawKind::OneU,
-        15,
         starts,
         opponents,
         colours,

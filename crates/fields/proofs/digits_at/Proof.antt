@@ -6,7 +6,7 @@ use Prim.Native.Nat.{ℕ, _≤_, _<_, _+_, _*_, _-_, _^_}
 use borrow.Author.Tests.{not-true, not-false}
 use Rattle.law.specs.Columns.{cells}
 use Rattle.law.proofs.FieldsRead.{digitsFrom}
-use Rattle.fields.specs.Fields.{asNumber}
+use Rattle.fields.specs.Fields.{orBlank}
 use Rattle.fields.proofs.Columns.{whole, ends}
 use Rattle.fields.proofs.Turns.{digits-more, digits-stop, digit-small, worth-more, worth-fits}
 use borrow.Author.Needs.{needs}
@@ -37,7 +37,7 @@ returns c =
     let l = c .before .before .before .before in
     let a = l .before .before .args in
     let x = c .before .before .column in
-    sym (ap asNumber (l .loop .inv .2 ∙ digits-stop (a .line .now) (a .from) (a .width) (l .loop .i) (x .result) (c .before .before .before .loop-test .taken) (x .ensures) (l .loop .n) (sym (c .before .is-digit .ensures) ∙ not-true _ (c .if1 .taken))))
+    sym (ap orBlank (l .loop .inv .2 ∙ digits-stop (a .line .now) (a .from) (a .width) (l .loop .i) (x .result) (c .before .before .before .loop-test .taken) (x .ensures) (l .loop .n) (sym (c .before .is-digit .ensures) ∙ not-true _ (c .if1 .taken))))
 
 mul-n : tie.Need-mul-n Inv-loop μ-loop
 mul-n c = let l = c .before .before .before .before in omega (arith, worth-fits (l .loop .i) (l .loop .n) (omega arith) (l .loop .inv .1))
@@ -68,7 +68,7 @@ loop-again c =
     )
 
 returns-2 : tie.Need-returns-2 Inv-loop μ-loop
-returns-2 c = let l = c .before in sym (ap asNumber (l .loop .inv .2 ∙ ends (digitsFrom (l .loop .n)) (l .before .before .args .line .now) (l .before .before .args .from) (l .before .before .args .width) (l .loop .i) (c .loop-test .left)))
+returns-2 c = let l = c .before in sym (ap orBlank (l .loop .inv .2 ∙ ends (digitsFrom (l .loop .n)) (l .before .before .args .line .now) (l .before .before .args .from) (l .before .before .args .width) (l .loop .i) (c .loop-test .left)))
 
 pub digits-at-spec : {M : Type 1} → statement M
 digits-at-spec =

@@ -7,7 +7,7 @@ use Prim.Native.Nat.{ℕ, _≤_, _<_, _+_, _*_, _-_, _^_}
 use borrow.Author.Tests.{not-true, not-false}
 use Rattle.law.specs.Columns.{cells}
 use Rattle.law.proofs.FieldsRead.{leadingFrom}
-use Rattle.fields.specs.Fields.{asLeading}
+use Rattle.fields.specs.Said.{orBadField}
 use Rattle.fields.proofs.Columns.{whole, ends}
 use Rattle.fields.proofs.Turns.{leading-more, leading-stop, digit-small, worth-more, worth-fits}
 use borrow.Author.Needs.{needs}
@@ -47,7 +47,7 @@ returns c =
     let l = c .before .before .before .before .before .before in
     let a = l .before .before .args in
     let x = c .before .before .before .before .column in
-    sym (ap asLeading (l .loop .inv .2 ∙ leading-stop (a .line .now) (a .from) (a .width) (l .loop .i) (x .result) (c .before .before .before .before .before .loop-test .taken) (x .ensures) (l .loop .n)
+    sym (ap orBadField (l .loop .inv .2 ∙ leading-stop (a .line .now) (a .from) (a .width) (l .loop .i) (x .result) (c .before .before .before .before .before .loop-test .taken) (x .ensures) (l .loop .n)
     (sym (c .before .before .before .is-digit .ensures) ∙ not-true _ (c .before .before .if1 .taken)) true (sym (c .before .blank-at .ensures) ∙ c .if2 .taken)))
 
 returns-2 : tie.Need-returns-2 Inv-loop μ-loop
@@ -55,7 +55,7 @@ returns-2 c =
     let l = c .before .before .before .before .before .before in
     let a = l .before .before .args in
     let x = c .before .before .before .before .column in
-    sym (ap asLeading (l .loop .inv .2 ∙ leading-stop (a .line .now) (a .from) (a .width) (l .loop .i) (x .result) (c .before .before .before .before .before .loop-test .taken) (x .ensures) (l .loop .n)
+    sym (ap orBadField (l .loop .inv .2 ∙ leading-stop (a .line .now) (a .from) (a .width) (l .loop .i) (x .result) (c .before .before .before .before .before .loop-test .taken) (x .ensures) (l .loop .n)
     (sym (c .before .before .before .is-digit .ensures) ∙ not-true _ (c .before .before .if1 .taken)) false (sym (c .before .blank-at .ensures) ∙ c .if2 .left)))
 
 mul-n : tie.Need-mul-n Inv-loop μ-loop
@@ -87,7 +87,7 @@ loop-again c =
     )
 
 returns-3 : tie.Need-returns-3 Inv-loop μ-loop
-returns-3 c = let l = c .before in sym (ap asLeading (l .loop .inv .2 ∙ ends (leadingFrom (l .loop .n)) (l .before .before .args .line .now) (l .before .before .args .from) (l .before .before .args .width) (l .loop .i) (c .loop-test .left)))
+returns-3 c = let l = c .before in sym (ap orBadField (l .loop .inv .2 ∙ ends (leadingFrom (l .loop .n)) (l .before .before .args .line .now) (l .before .before .args .from) (l .before .before .args .width) (l .loop .i) (c .loop-test .left)))
 
 pub leading-from-spec : {M : Type 1} → statement M
 leading-from-spec =

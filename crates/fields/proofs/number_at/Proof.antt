@@ -3,7 +3,7 @@ use mathlib.Core.Path.{_≡_, refl, sym, ap, _∙_}
 use Prim.Native.Nat.{ℕ, _≤_, _+_, _-_}
 use Rattle.law.specs.Columns.{cells}
 use Rattle.law.proofs.FieldsRead.{numberOf}
-use Rattle.fields.specs.Fields.{asNumber}
+use Rattle.fields.specs.Fields.{orBlank}
 use Rattle.fields.proofs.Columns.{whole, ends}
 use Rattle.fields.proofs.Turns.{number-blank, number-digits}
 use borrow.Author.Needs.{needs}
@@ -40,7 +40,7 @@ returns c =
     let a = l .before .before .args in
     let x = c .before .before .column in
     c .digits-at .ensures
-    ∙ sym (ap asNumber (l .loop .inv .1 ∙ number-digits (a .line .now) (a .from) (a .width) (l .loop .i) (x .result) (c .before .before .before .loop-test .taken) (x .ensures) (c .before .if1 .taken)))
+    ∙ sym (ap orBlank (l .loop .inv .1 ∙ number-digits (a .line .now) (a .from) (a .width) (l .loop .i) (x .result) (c .before .before .before .loop-test .taken) (x .ensures) (c .before .if1 .taken)))
 
 add-i : tie.Need-add-i Inv-loop μ-loop
 add-i c = search needs
@@ -56,7 +56,7 @@ loop-again c =
     (search needs, l .loop .inv .1 ∙ number-blank (a .line .now) (a .from) (a .width) (l .loop .i) (x .result) (c .before .before .loop-test .taken) (x .ensures) (c .if1 .left))
 
 returns-2 : tie.Need-returns-2 Inv-loop μ-loop
-returns-2 c = let l = c .before in sym (ap asNumber (l .loop .inv .1 ∙ ends numberOf (l .before .before .args .line .now) (l .before .before .args .from) (l .before .before .args .width) (l .loop .i) (c .loop-test .left)))
+returns-2 c = let l = c .before in sym (ap orBlank (l .loop .inv .1 ∙ ends numberOf (l .before .before .args .line .now) (l .before .before .args .from) (l .before .before .args .width) (l .loop .i) (c .loop-test .left)))
 
 pub number-at-spec : {M : Type 1} → statement M
 number-at-spec =

@@ -2,7 +2,7 @@
 use mathlib.Core.Path.{_≡_, refl, sym, ap, _∙_}
 use mathlib.Core.Bool.{true, false}
 use borrow.Author.Tests.{not-true, not-false}
-use Rattle.fields.specs.Fields.{asPoints}
+use Rattle.fields.specs.Said.{orBadField}
 use Rattle.law.proofs.FieldsRead.{arePoints}
 use Rattle.fields.proofs.Turns.{points-there, points-not}
 use borrow.Author.Needs.{needs}
@@ -38,7 +38,7 @@ returns c =
     let x = c .before .before .before .before .before in
     let a = x .before .before .args in
     let t : arePoints (x .column .result) (c .before .before .before .before .column2 .result) (c .before .before .before .column3 .result) (c .before .before .column4 .result) ≡ false = sym (c .before .are-points .ensures) ∙ not-true _ (c .if1 .taken) in
-    sym (ap asPoints (points-not (a .line .now) (a .from) _ _ _ _ (x .column .ensures) (c .before .before .before .before .column2 .ensures) (c .before .before .before .column3 .ensures) (c .before .before .column4 .ensures) t))
+    sym (ap orBadField (points-not (a .line .now) (a .from) _ _ _ _ (x .column .ensures) (c .before .before .before .before .column2 .ensures) (c .before .before .before .column3 .ensures) (c .before .before .column4 .ensures) t))
 
 digit-value-requires : tie.Need-digit-value-requires
 digit-value-requires c κs = tt
@@ -66,7 +66,7 @@ returns-2 c =
     let x = c .before .before .before .before .before .before .before .before in
     let a = x .before .before .args in
     let t : arePoints (x .column .result) (c .before .before .before .before .before .before .before .column2 .result) (c .before .before .before .before .before .before .column3 .result) (c .before .before .before .before .before .column4 .result) ≡ true = sym (c .before .before .before .before .are-points .ensures) ∙ not-false _ (c .before .before .before .if1 .left) in
-    sym (ap asPoints (points-there (a .line .now) (a .from) _ _ _ _ (x .column .ensures) (c .before .before .before .before .before .before .before .column2 .ensures) (c .before .before .before .before .before .before .column3 .ensures) (c .before .before .before .before .before .column4 .ensures) t)
+    sym (ap orBadField (points-there (a .line .now) (a .from) _ _ _ _ (x .column .ensures) (c .before .before .before .before .before .before .before .column2 .ensures) (c .before .before .before .before .before .before .column3 .ensures) (c .before .before .before .before .before .column4 .ensures) t)
     ∙ rw (← (c .before .before .digit-value .ensures .0), ← (c .before .digit-value2 .ensures .0), ← (c .digit-value3 .ensures .0)) refl)
 
 pub points-at-spec : {M : Type 1} → statement M

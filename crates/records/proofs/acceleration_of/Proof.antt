@@ -3,9 +3,11 @@ use mathlib.Core.Path.{refl, sym, ap, _∙_}
 use mathlib.Core.Bool.{true, false}
 use mathlib.Core.Option.{none, some}
 use borrow.Author.Tests.{not-true, not-false}
-use Rattle.fields.proofs.Cases.{points-there, no-points}
-use Rattle.records.specs.Records.{asAccelerated}
-use Rattle.records.proofs.Accelerations.{span-there, no-span, acceleration-by, acceleration-in}
+use Rattle.fields.proofs.Cases.{value-said, none-said}
+use Rattle.fields.specs.Said.{orBadField}
+use Rattle.fields.specs.Fields.{pointsSays}
+use Rattle.records.specs.Records.{spanSays}
+use Rattle.records.proofs.Accelerations.{acceleration-by, acceleration-in}
 use borrow.Author.Needs.{needs}
 use Rattle.records.proofs.acceleration_of.Statement.{statement}
 use Rattle.records.proofs.acceleration_of.Tie as tie
@@ -14,7 +16,7 @@ acceleration-else-blank-requires : tie.Need-acceleration-else-blank-requires
 acceleration-else-blank-requires c κs = tt
 
 returns : tie.Need-returns
-returns c = sym (ap asAccelerated (acceleration-by (c .before .before .before .args .line .now) false _ _ _ (sym (c .before .acceleration-else-blank .ensures) ∙ not-true _ (c .if1 .taken)) refl refl refl))
+returns c = sym (ap orBadField (acceleration-by (c .before .before .before .args .line .now) false _ _ _ (sym (c .before .acceleration-else-blank .ensures) ∙ not-true _ (c .if1 .taken)) refl refl refl))
 
 points-at-requires : tie.Need-points-at-requires
 points-at-requires c κs = search needs
@@ -27,8 +29,8 @@ enum-told c = search needs
 
 returns-2 : tie.Need-returns-2
 returns-2 c =
-    sym (ap asAccelerated (acceleration-by (c .before .before .before .before .before .before .args .line .now) true none _ _ (sym (c .before .before .before .before .acceleration-else-blank .ensures) ∙ not-false _ (c .before .before .before .if1 .left))
-    (no-points _ (sym (c .before .before .points-at .ensures) ∙ c .enum-told .given .1)) refl refl))
+    sym (ap orBadField (acceleration-by (c .before .before .before .before .before .before .args .line .now) true none _ _ (sym (c .before .before .before .before .acceleration-else-blank .ensures) ∙ not-false _ (c .before .before .before .if1 .left))
+    (none-said _ (sym (c .before .before .points-at .ensures) ∙ ap pointsSays (c .enum-told .given .1))) refl refl))
 
 span-at-requires : tie.Need-span-at-requires
 span-at-requires c κs = search needs
@@ -41,8 +43,8 @@ enum-told-2 c = search needs
 
 returns-3 : tie.Need-returns-3
 returns-3 c =
-    sym (ap asAccelerated (acceleration-by (c .before .before .before .before .before .before .before .before .before .before .args .line .now) true (some _) none _ (sym (c .before .before .before .before .before .before .before .before .acceleration-else-blank .ensures) ∙ not-false _ (c .before .before .before .before .before .before .before .if1 .left))
-    (points-there _ _ (sym (c .before .before .before .before .before .before .points-at .ensures) ∙ c .before .before .before .before .points .given .1)) (no-span _ (sym (c .before .before .span-at .ensures) ∙ c .enum-told2 .given .1)) refl))
+    sym (ap orBadField (acceleration-by (c .before .before .before .before .before .before .before .before .before .before .args .line .now) true (some _) none _ (sym (c .before .before .before .before .before .before .before .before .acceleration-else-blank .ensures) ∙ not-false _ (c .before .before .before .before .before .before .before .if1 .left))
+    (value-said _ _ (sym (c .before .before .before .before .before .before .points-at .ensures) ∙ ap pointsSays (c .before .before .before .before .points .given .1))) (none-said _ (sym (c .before .before .span-at .ensures) ∙ ap spanSays (c .enum-told2 .given .1))) refl))
 
 span-at-requires-2 : tie.Need-span-at-requires-2
 span-at-requires-2 c κs = search needs
@@ -55,24 +57,24 @@ enum-told-3 c = search needs
 
 returns-4 : tie.Need-returns-4
 returns-4 c =
-    sym (ap asAccelerated (acceleration-by (c .before .before .before .before .before .before .before .before .before .before .before .before .before .before .args .line .now) true (some _) (some _) none (sym (c .before .before .before .before .before .before .before .before .before .before .before .before .acceleration-else-blank .ensures) ∙ not-false _ (c .before .before .before .before .before .before .before .before .before .before .before .if1 .left))
-    (points-there _ _ (sym (c .before .before .before .before .before .before .before .before .before .before .points-at .ensures) ∙ c .before .before .before .before .before .before .before .before .points .given .1)) (span-there _ _ _ (sym (c .before .before .before .before .before .before .span-at .ensures) ∙ c .before .before .before .before .first-round .given .1))
-    (no-span _ (sym (c .before .before .span-at2 .ensures) ∙ c .enum-told3 .given .1))))
+    sym (ap orBadField (acceleration-by (c .before .before .before .before .before .before .before .before .before .before .before .before .before .before .args .line .now) true (some _) (some _) none (sym (c .before .before .before .before .before .before .before .before .before .before .before .before .acceleration-else-blank .ensures) ∙ not-false _ (c .before .before .before .before .before .before .before .before .before .before .before .if1 .left))
+    (value-said _ _ (sym (c .before .before .before .before .before .before .before .before .before .before .points-at .ensures) ∙ ap pointsSays (c .before .before .before .before .before .before .before .before .points .given .1))) (value-said _ _ (sym (c .before .before .before .before .before .before .span-at .ensures) ∙ ap spanSays (c .before .before .before .before .first-round .given .1)))
+    (none-said _ (sym (c .before .before .span-at2 .ensures) ∙ ap spanSays (c .enum-told3 .given .1)))))
 
 is-acceleration-requires : tie.Need-is-acceleration-requires
 is-acceleration-requires c κs = tt
 
 returns-5 : tie.Need-returns-5
 returns-5 c =
-    sym (ap asAccelerated (acceleration-in (c .before .before .before .before .before .before .before .before .before .before .before .before .before .before .before .before .before .args .line .now) _ _ _ false (sym (c .before .before .before .before .before .before .before .before .before .before .before .before .before .before .before .acceleration-else-blank .ensures) ∙ not-false _ (c .before .before .before .before .before .before .before .before .before .before .before .before .before .before .if1 .left))
-    (points-there _ _ (sym (c .before .before .before .before .before .before .before .before .before .before .before .before .before .points-at .ensures) ∙ c .before .before .before .before .before .before .before .before .before .before .before .points .given .1)) (span-there _ _ _ (sym (c .before .before .before .before .before .before .before .before .before .span-at .ensures) ∙ c .before .before .before .before .before .before .before .first-round .given .1))
-    (span-there _ _ _ (sym (c .before .before .before .before .before .span-at2 .ensures) ∙ c .before .before .before .first-start .given .1)) (sym (c .before .is-acceleration .ensures) ∙ not-true _ (c .if2 .taken))))
+    sym (ap orBadField (acceleration-in (c .before .before .before .before .before .before .before .before .before .before .before .before .before .before .before .before .before .args .line .now) _ _ _ false (sym (c .before .before .before .before .before .before .before .before .before .before .before .before .before .before .before .acceleration-else-blank .ensures) ∙ not-false _ (c .before .before .before .before .before .before .before .before .before .before .before .before .before .before .if1 .left))
+    (value-said _ _ (sym (c .before .before .before .before .before .before .before .before .before .before .before .before .before .points-at .ensures) ∙ ap pointsSays (c .before .before .before .before .before .before .before .before .before .before .before .points .given .1))) (value-said _ _ (sym (c .before .before .before .before .before .before .before .before .before .span-at .ensures) ∙ ap spanSays (c .before .before .before .before .before .before .before .first-round .given .1)))
+    (value-said _ _ (sym (c .before .before .before .before .before .span-at2 .ensures) ∙ ap spanSays (c .before .before .before .first-start .given .1))) (sym (c .before .is-acceleration .ensures) ∙ not-true _ (c .if2 .taken))))
 
 returns-6 : tie.Need-returns-6
 returns-6 c =
-    sym (ap asAccelerated (acceleration-in (c .before .before .before .before .before .before .before .before .before .before .before .before .before .before .before .before .before .args .line .now) _ _ _ true (sym (c .before .before .before .before .before .before .before .before .before .before .before .before .before .before .before .acceleration-else-blank .ensures) ∙ not-false _ (c .before .before .before .before .before .before .before .before .before .before .before .before .before .before .if1 .left))
-    (points-there _ _ (sym (c .before .before .before .before .before .before .before .before .before .before .before .before .before .points-at .ensures) ∙ c .before .before .before .before .before .before .before .before .before .before .before .points .given .1)) (span-there _ _ _ (sym (c .before .before .before .before .before .before .before .before .before .span-at .ensures) ∙ c .before .before .before .before .before .before .before .first-round .given .1))
-    (span-there _ _ _ (sym (c .before .before .before .before .before .span-at2 .ensures) ∙ c .before .before .before .first-start .given .1)) (sym (c .before .is-acceleration .ensures) ∙ not-false _ (c .if2 .left))))
+    sym (ap orBadField (acceleration-in (c .before .before .before .before .before .before .before .before .before .before .before .before .before .before .before .before .before .args .line .now) _ _ _ true (sym (c .before .before .before .before .before .before .before .before .before .before .before .before .before .before .before .acceleration-else-blank .ensures) ∙ not-false _ (c .before .before .before .before .before .before .before .before .before .before .before .before .before .before .if1 .left))
+    (value-said _ _ (sym (c .before .before .before .before .before .before .before .before .before .before .before .before .before .points-at .ensures) ∙ ap pointsSays (c .before .before .before .before .before .before .before .before .before .before .before .points .given .1))) (value-said _ _ (sym (c .before .before .before .before .before .before .before .before .before .span-at .ensures) ∙ ap spanSays (c .before .before .before .before .before .before .before .first-round .given .1)))
+    (value-said _ _ (sym (c .before .before .before .before .before .span-at2 .ensures) ∙ ap spanSays (c .before .before .before .first-start .given .1))) (sym (c .before .is-acceleration .ensures) ∙ not-false _ (c .if2 .left))))
 
 pub acceleration-of-spec : {M : Type 1} → statement M
 acceleration-of-spec =

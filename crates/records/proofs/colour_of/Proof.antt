@@ -2,7 +2,7 @@
 use mathlib.Core.Path.{refl, sym, ap, _∙_}
 use mathlib.Core.Bool.{true, false}
 use borrow.Author.Tests.{not-true, not-false}
-use Rattle.records.specs.Records.{asInitial}
+use Rattle.fields.specs.Said.{orBadField}
 use Rattle.records.proofs.Heads.{colour-by}
 use borrow.Author.Needs.{needs}
 use Rattle.records.proofs.colour_of.Statement.{statement}
@@ -15,19 +15,19 @@ is-initial-requires : tie.Need-is-initial-requires
 is-initial-requires c κs = tt
 
 returns : tie.Need-returns
-returns c = sym (ap asInitial (colour-by (c .before .before .before .before .args .line .now) (c .before .before .column .result) false _ (sym (c .before .before .column .ensures)) (sym (c .before .is-initial .ensures) ∙ not-true _ (c .if1 .taken)) refl))
+returns c = sym (ap orBadField (colour-by (c .before .before .before .before .args .line .now) (c .before .before .column .result) false _ (sym (c .before .before .column .ensures)) (sym (c .before .is-initial .ensures) ∙ not-true _ (c .if1 .taken)) refl))
 
 blank-but-requires : tie.Need-blank-but-requires
 blank-but-requires c κs = search needs
 
 returns-2 : tie.Need-returns-2
 returns-2 c =
-    sym (ap asInitial (colour-by (c .before .before .before .before .before .before .args .line .now) (c .before .before .before .before .column .result) true false (sym (c .before .before .before .before .column .ensures)) (sym (c .before .before .before .is-initial .ensures) ∙ not-false _ (c .before .before .if1 .left))
+    sym (ap orBadField (colour-by (c .before .before .before .before .before .before .args .line .now) (c .before .before .before .before .column .result) true false (sym (c .before .before .before .before .column .ensures)) (sym (c .before .before .before .is-initial .ensures) ∙ not-false _ (c .before .before .if1 .left))
     (sym (c .before .blank-but .ensures) ∙ not-true _ (c .if2 .taken))))
 
 returns-3 : tie.Need-returns-3
 returns-3 c =
-    sym (ap asInitial (colour-by (c .before .before .before .before .before .before .args .line .now) (c .before .before .before .before .column .result) true true (sym (c .before .before .before .before .column .ensures)) (sym (c .before .before .before .is-initial .ensures) ∙ not-false _ (c .before .before .if1 .left))
+    sym (ap orBadField (colour-by (c .before .before .before .before .before .before .args .line .now) (c .before .before .before .before .column .result) true true (sym (c .before .before .before .before .column .ensures)) (sym (c .before .before .before .is-initial .ensures) ∙ not-false _ (c .before .before .if1 .left))
     (sym (c .before .blank-but .ensures) ∙ not-false _ (c .if2 .left))))
 
 pub colour-of-spec : {M : Type 1} → statement M

@@ -2,7 +2,7 @@
 use mathlib.Core.Path.{refl, sym}
 use mathlib.Core.List.{[], _∷_}
 use Rattle.law.specs.Heads.{initialColours}
-use Rattle.records.proofs.Keys.{key-among, key-other}
+use Rattle.fields.proofs.Keys.{key-among, key-other}
 use Rattle.records.proofs.is_initial.Statement.{statement}
 use Rattle.records.proofs.is_initial.Tie as tie
 

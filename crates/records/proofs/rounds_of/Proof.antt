@@ -3,8 +3,9 @@ use mathlib.Core.Path.{refl, sym, ap, _∙_}
 use mathlib.Core.Bool.{true, false}
 use mathlib.Core.Option.{none}
 use borrow.Author.Tests.{not-true, not-false, le-leb, lt-leb}
-use Rattle.fields.proofs.Cases.{leading-there, no-leading}
-use Rattle.records.specs.Records.{asRounds}
+use Rattle.fields.specs.Said.{orBadField}
+use Rattle.fields.specs.Fields.{leadingSays}
+use Rattle.fields.proofs.Cases.{value-said, none-said}
 use Rattle.records.proofs.Heads.{rounds-by, rounds-in}
 use borrow.Author.Needs.{needs}
 use Rattle.records.proofs.rounds_of.Statement.{statement}
@@ -14,7 +15,7 @@ blank-but-requires : tie.Need-blank-but-requires
 blank-but-requires c κs = search needs
 
 returns : tie.Need-returns
-returns c = sym (ap asRounds (rounds-by (c .before .before .before .args .line .now) false _ (sym (c .before .blank-but .ensures) ∙ not-true _ (c .if1 .taken)) refl))
+returns c = sym (ap orBadField (rounds-by (c .before .before .before .args .line .now) false _ (sym (c .before .blank-but .ensures) ∙ not-true _ (c .if1 .taken)) refl))
 
 leading-at-requires : tie.Need-leading-at-requires
 leading-at-requires c κs = search needs
@@ -27,18 +28,18 @@ enum-told c = search needs
 
 returns-2 : tie.Need-returns-2
 returns-2 c =
-    sym (ap asRounds (rounds-by (c .before .before .before .before .before .before .args .line .now) true none (sym (c .before .before .before .before .blank-but .ensures) ∙ not-false _ (c .before .before .before .if1 .left))
-    (no-leading _ (sym (c .before .before .leading-at .ensures) ∙ c .enum-told .given .1))))
+    sym (ap orBadField (rounds-by (c .before .before .before .before .before .before .args .line .now) true none (sym (c .before .before .before .before .blank-but .ensures) ∙ not-false _ (c .before .before .before .if1 .left))
+    (none-said _ (sym (c .before .before .leading-at .ensures) ∙ ap leadingSays (c .enum-told .given .1)))))
 
 returns-3 : tie.Need-returns-3
 returns-3 c =
-    sym (ap asRounds (rounds-in (c .before .before .before .before .before .before .before .before .args .line .now) _ false (sym (c .before .before .before .before .before .before .blank-but .ensures) ∙ not-false _ (c .before .before .before .before .before .if1 .left))
-    (leading-there _ _ (sym (c .before .before .before .before .leading-at .ensures) ∙ c .before .before .n .given .1)) (lt-leb _ _ (c .if2 .taken))))
+    sym (ap orBadField (rounds-in (c .before .before .before .before .before .before .before .before .args .line .now) _ false (sym (c .before .before .before .before .before .before .blank-but .ensures) ∙ not-false _ (c .before .before .before .before .before .if1 .left))
+    (value-said _ _ (sym (c .before .before .before .before .leading-at .ensures) ∙ ap leadingSays (c .before .before .n .given .1))) (lt-leb _ _ (c .if2 .taken))))
 
 returns-4 : tie.Need-returns-4
 returns-4 c =
-    sym (ap asRounds (rounds-in (c .before .before .before .before .before .before .before .before .args .line .now) _ true (sym (c .before .before .before .before .before .before .blank-but .ensures) ∙ not-false _ (c .before .before .before .before .before .if1 .left))
-    (leading-there _ _ (sym (c .before .before .before .before .leading-at .ensures) ∙ c .before .before .n .given .1)) (le-leb _ _ (c .if2 .left))))
+    sym (ap orBadField (rounds-in (c .before .before .before .before .before .before .before .before .args .line .now) _ true (sym (c .before .before .before .before .before .before .blank-but .ensures) ∙ not-false _ (c .before .before .before .before .before .if1 .left))
+    (value-said _ _ (sym (c .before .before .before .before .leading-at .ensures) ∙ ap leadingSays (c .before .before .n .given .1))) (le-leb _ _ (c .if2 .left))))
 
 pub rounds-of-spec : {M : Type 1} → statement M
 rounds-of-spec =

@@ -1,12 +1,13 @@
 -- `records::span_at` meets its contract. Assumes nothing.
 use mathlib.Core.Path.{refl, sym, ap, _∙_}
 use mathlib.Core.Option.{none, some}
-use Rattle.records.specs.Records.{asSpan}
+use Rattle.fields.specs.Said.{orBadField}
+use Rattle.fields.specs.Fields.{numberSays}
 use Rattle.records.proofs.Accelerations.{span-by}
 use Prim.Native.Nat.{_+_}
 use Rattle.law.specs.Columns.{cells}
 use Rattle.law.proofs.FieldsRead.{numberOf}
-use Rattle.fields.proofs.Cases.{value-there, no-value}
+use Rattle.fields.proofs.Cases.{number-said, no-number}
 use borrow.Author.Needs.{needs}
 use Rattle.records.proofs.span_at.Statement.{statement}
 use Rattle.records.proofs.span_at.Tie as tie
@@ -20,7 +21,7 @@ enum-known-first c = search needs
 returns : tie.Need-returns
 returns c =
     let a = c .before .before .before .args in
-    sym (ap asSpan (span-by (a .line .now) (a .from) (a .width) none _ (no-value (numberOf (cells (a .line .now) (a .from) (a .width))) _ (c .before .number-at .ensures) (c .match .keys2)) refl))
+    sym (ap orBadField (span-by (a .line .now) (a .from) (a .width) none _ (no-number (numberOf (cells (a .line .now) (a .from) (a .width))) (c .before .number-at .result) (c .before .number-at .ensures) (c .match .keys2)) refl))
 
 add-number-at : tie.Need-add-number-at
 add-number-at c = search needs
@@ -37,14 +38,14 @@ enum-known-last c = search needs
 returns-2 : tie.Need-returns-2
 returns-2 c =
     let a = c .before .before .before .before .before .before .before .args in
-    sym (ap asSpan (span-by (a .line .now) (a .from) (a .width) (some _) none (value-there (numberOf (cells (a .line .now) (a .from) (a .width))) _ (sym (c .before .before .before .before .before .number-at .ensures) ∙ c .before .before .before .first .given .1))
-    (no-value (numberOf (cells (a .line .now) (a .from + a .width + 1) (a .width))) _ (c .before .number-at2 .ensures) (c .match2 .keys2))))
+    sym (ap orBadField (span-by (a .line .now) (a .from) (a .width) (some _) none (number-said (numberOf (cells (a .line .now) (a .from) (a .width))) _ (sym (c .before .before .before .before .before .number-at .ensures) ∙ ap numberSays (c .before .before .before .first .given .1)))
+    (no-number (numberOf (cells (a .line .now) (a .from + a .width + 1) (a .width))) (c .before .number-at2 .result) (c .before .number-at2 .ensures) (c .match2 .keys2))))
 
 returns-3 : tie.Need-returns-3
 returns-3 c =
     let a = c .before .before .before .before .before .before .before .before .before .args in
-    sym (ap asSpan (span-by (a .line .now) (a .from) (a .width) (some _) (some _) (value-there (numberOf (cells (a .line .now) (a .from) (a .width))) _ (sym (c .before .before .before .before .before .before .before .number-at .ensures) ∙ c .before .before .before .before .before .first .given .1))
-    (value-there (numberOf (cells (a .line .now) (a .from + a .width + 1) (a .width))) _ (sym (c .before .before .before .number-at2 .ensures) ∙ c .before .last .given .1))))
+    sym (ap orBadField (span-by (a .line .now) (a .from) (a .width) (some _) (some _) (number-said (numberOf (cells (a .line .now) (a .from) (a .width))) _ (sym (c .before .before .before .before .before .before .before .number-at .ensures) ∙ ap numberSays (c .before .before .before .before .before .first .given .1)))
+    (number-said (numberOf (cells (a .line .now) (a .from + a .width + 1) (a .width))) _ (sym (c .before .before .before .number-at2 .ensures) ∙ ap numberSays (c .before .last .given .1)))))
 
 pub span-at-spec : {M : Type 1} → statement M
 span-at-spec =

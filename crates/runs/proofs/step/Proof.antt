@@ -1,13 +1,14 @@
 -- `runs::step` meets its contract. Assumes nothing.
-use mathlib.Core.Path.{refl, sym, _∙_}
+use mathlib.Core.Path.{refl, sym, ap, _∙_}
 use Prim.Native.Nat.{ℕ, _-_}
 use denote.Ref.{now}
 use borrow.Author.Tests.{not-true, not-false}
 use Rattle.law.specs.Items.{passed-over, kept-text, 142-record, 152-record, 162-record, 250-record, 001-record, unlisted, kindOf}
 use Rattle.join.specs.Store.{state, stepRow}
+use Rattle.records.specs.Records.{kindSays}
+use Rattle.records.proofs.Told.{kind-told}
 use Rattle.tables.specs.Lent.{nine}
 use Rattle.steps.specs.Counts.{asCount}
-use Rattle.runs.proofs.Told.{kind-told}
 use Rattle.runs.proofs.Sound.{bad-byte, too-long, by-kind}
 use Rattle.runs.proofs.Room.{stepped, still-indexed, less}
 use borrow.Author.Needs.{needs}
@@ -46,7 +47,7 @@ step-text-requires : tie.Need-step-text-requires
 step-text-requires c κs =
     let s = c .before .before .before .before .before .before .before .before .before .before .before .before .before .before .before .before .before in
     let row = s .args .line .now in
-    (kind-told (kindOf row) kept-text (sym (c .before .before .before .kind-of .ensures) ∙ c .before .enum-told2 .given .1), c .before .before .before .before .if2 .left, s .pre .1 .1 .0 .text, s .pre .0 .text)
+    (kind-told (kindOf row) kept-text (sym (c .before .before .before .kind-of .ensures) ∙ ap kindSays (c .before .enum-told2 .given .1)), c .before .before .before .before .if2 .left, s .pre .1 .1 .0 .text, s .pre .0 .text)
 
 enum-told-3 : tie.Need-enum-told-3
 enum-told-3 c = search needs
@@ -91,7 +92,7 @@ returns-3 c =
     let row = a .line .now in
     let t = (nine (now (a .starts)) (now (a .points)) (now (a .ranks)) (now (a .kept)) (now (a .opponents)) (now (a .colours)) (now (a .results)) (now (a .text)) (now (a .lines))) in
     let all = sym (c .before .before .before .before .before .all-allowed .ensures) ∙ not-false _ (c .before .before .before .before .if1 .left) in
-    let kind = kind-told (kindOf row) passed-over (sym (c .before .before .kind-of .ensures) ∙ c .enum-told .given .1) in
+    let kind = kind-told (kindOf row) passed-over (sym (c .before .before .kind-of .ensures) ∙ ap kindSays (c .enum-told .given .1)) in
     stepped (a .number .0) (asCount (a .c)) t row (record { fault = 0; counts = a .c }) _ (s .pre .1 .1 .0 .accelerations, s .pre .1 .1 .0 .text) (s .pre .1 .1 .1) (λ ln end e. refl ∙ by-kind row end (state ln (asCount (a .c)) t) all passed-over (c .before .before .before .if2 .left) kind) (s .pre .1 .0)
 
 same-length : tie.Need-same-length
@@ -105,7 +106,7 @@ returns-4 c =
     let row = a .line .now in
     let t = (nine (now (a .starts)) (now (a .points)) (now (a .ranks)) (now (a .kept)) (now (a .opponents)) (now (a .colours)) (now (a .results)) (now (a .text)) (now (a .lines))) in
     let all = sym (c .before .before .before .before .before .before .before .before .before .all-allowed .ensures) ∙ not-false _ (c .before .before .before .before .before .before .before .before .if1 .left) in
-    let kind = kind-told (kindOf row) kept-text (sym (c .before .before .before .before .before .before .kind-of .ensures) ∙ c .before .before .before .before .enum-told2 .given .1) in
+    let kind = kind-told (kindOf row) kept-text (sym (c .before .before .before .before .before .before .kind-of .ensures) ∙ ap kindSays (c .before .before .before .before .enum-told2 .given .1)) in
     stepped (a .number .0) (asCount (a .c)) t row (c .before .before .step-text .result) _ (s .pre .1 .1 .0 .accelerations, s .pre .1 .1 .0 .text) (s .pre .1 .1 .1) (λ ln end e. c .before .before .step-text .ensures ln t ∙ by-kind row end (state ln (asCount (a .c)) t) all kept-text (c .before .before .before .before .before .before .before .if2 .left) kind)
     (still-indexed (now (a .starts)) (now (a .index)) (a .number .0 - 1) (asCount (a .c)) t row kept-text refl (c .before .before .step-text .result) _ (c .before .before .step-text .ensures (a .number .0 - 1) t) (s .pre .1 .0))
 
@@ -117,7 +118,7 @@ returns-5 c =
     let row = a .line .now in
     let t = (nine (now (a .starts)) (now (a .points)) (now (a .ranks)) (now (a .kept)) (now (a .opponents)) (now (a .colours)) (now (a .results)) (now (a .text)) (now (a .lines))) in
     let all = sym (c .before .before .before .before .before .before .all-allowed .ensures) ∙ not-false _ (c .before .before .before .before .before .if1 .left) in
-    let kind = kind-told (kindOf row) 142-record (sym (c .before .before .before .kind-of .ensures) ∙ c .before .enum-told3 .given .1) in
+    let kind = kind-told (kindOf row) 142-record (sym (c .before .before .before .kind-of .ensures) ∙ ap kindSays (c .before .enum-told3 .given .1)) in
     stepped (a .number .0) (asCount (a .c)) t row (c .step-rounds .result) _ (s .pre .1 .1 .0 .accelerations, s .pre .1 .1 .0 .text) (s .pre .1 .1 .1) (λ ln end e. c .step-rounds .ensures ln t ∙ by-kind row end (state ln (asCount (a .c)) t) all 142-record (c .before .before .before .before .if2 .left) kind)
     (still-indexed (now (a .starts)) (now (a .index)) (a .number .0 - 1) (asCount (a .c)) t row 142-record refl (c .step-rounds .result) _ (c .step-rounds .ensures (a .number .0 - 1) t) (s .pre .1 .0))
 
@@ -129,7 +130,7 @@ returns-6 c =
     let row = a .line .now in
     let t = (nine (now (a .starts)) (now (a .points)) (now (a .ranks)) (now (a .kept)) (now (a .opponents)) (now (a .colours)) (now (a .results)) (now (a .text)) (now (a .lines))) in
     let all = sym (c .before .before .before .before .before .before .all-allowed .ensures) ∙ not-false _ (c .before .before .before .before .before .if1 .left) in
-    let kind = kind-told (kindOf row) 152-record (sym (c .before .before .before .kind-of .ensures) ∙ c .before .enum-told4 .given .1) in
+    let kind = kind-told (kindOf row) 152-record (sym (c .before .before .before .kind-of .ensures) ∙ ap kindSays (c .before .enum-told4 .given .1)) in
     stepped (a .number .0) (asCount (a .c)) t row (c .step-colour .result) _ (s .pre .1 .1 .0 .accelerations, s .pre .1 .1 .0 .text) (s .pre .1 .1 .1) (λ ln end e. c .step-colour .ensures ln t ∙ by-kind row end (state ln (asCount (a .c)) t) all 152-record (c .before .before .before .before .if2 .left) kind)
     (still-indexed (now (a .starts)) (now (a .index)) (a .number .0 - 1) (asCount (a .c)) t row 152-record refl (c .step-colour .result) _ (c .step-colour .ensures (a .number .0 - 1) t) (s .pre .1 .0))
 
@@ -141,7 +142,7 @@ returns-7 c =
     let row = a .line .now in
     let t = (nine (now (a .starts)) (now (a .points)) (now (a .ranks)) (now (a .kept)) (now (a .opponents)) (now (a .colours)) (now (a .results)) (now (a .text)) (now (a .lines))) in
     let all = sym (c .before .before .before .before .before .before .all-allowed .ensures) ∙ not-false _ (c .before .before .before .before .before .if1 .left) in
-    let kind = kind-told (kindOf row) 162-record (sym (c .before .before .before .kind-of .ensures) ∙ c .before .enum-told5 .given .1) in
+    let kind = kind-told (kindOf row) 162-record (sym (c .before .before .before .kind-of .ensures) ∙ ap kindSays (c .before .enum-told5 .given .1)) in
     stepped (a .number .0) (asCount (a .c)) t row (c .step-scoring .result) _ (s .pre .1 .1 .0 .accelerations, s .pre .1 .1 .0 .text) (s .pre .1 .1 .1) (λ ln end e. c .step-scoring .ensures ln t ∙ by-kind row end (state ln (asCount (a .c)) t) all 162-record (c .before .before .before .before .if2 .left) kind)
     (still-indexed (now (a .starts)) (now (a .index)) (a .number .0 - 1) (asCount (a .c)) t row 162-record refl (c .step-scoring .result) _ (c .step-scoring .ensures (a .number .0 - 1) t) (s .pre .1 .0))
 
@@ -156,7 +157,7 @@ returns-8 c =
     let row = a .line .now in
     let t = (nine (now (a .starts)) (now (a .points)) (now (a .ranks)) (now (a .kept)) (now (a .opponents)) (now (a .colours)) (now (a .results)) (now (a .text)) (now (a .lines))) in
     let all = sym (c .before .before .before .before .before .before .before .before .before .all-allowed .ensures) ∙ not-false _ (c .before .before .before .before .before .before .before .before .if1 .left) in
-    let kind = kind-told (kindOf row) 250-record (sym (c .before .before .before .before .before .before .kind-of .ensures) ∙ c .before .before .before .before .enum-told6 .given .1) in
+    let kind = kind-told (kindOf row) 250-record (sym (c .before .before .before .before .before .before .kind-of .ensures) ∙ ap kindSays (c .before .before .before .before .enum-told6 .given .1)) in
     stepped (a .number .0) (asCount (a .c)) t row (c .before .before .step-acceleration .result) _ (s .pre .1 .1 .0 .accelerations, s .pre .1 .1 .0 .text) (s .pre .1 .1 .1) (λ ln end e. c .before .before .step-acceleration .ensures ln t e ∙ by-kind row end (state ln (asCount (a .c)) t) all 250-record (c .before .before .before .before .before .before .before .if2 .left) kind)
     (still-indexed (now (a .starts)) (now (a .index)) (a .number .0 - 1) (asCount (a .c)) t row 250-record refl (c .before .before .step-acceleration .result) _ (c .before .before .step-acceleration .ensures (a .number .0 - 1) t (less (a .number .0) (s .pre .1 .1 .1))) (s .pre .1 .0))
 
@@ -192,7 +193,7 @@ returns-9 c =
     let row = a .line .now in
     let t = (nine (now (a .starts)) (now (a .points)) (now (a .ranks)) (now (a .kept)) (now (a .opponents)) (now (a .colours)) (now (a .results)) (now (a .text)) (now (a .lines))) in
     let all = sym (c .before .before .before .before .before .before .before .before .before .before .before .before .before .before .before .before .before .before .before .before .before .before .before .before .before .before .before .before .before .before .before .all-allowed .ensures) ∙ not-false _ (c .before .before .before .before .before .before .before .before .before .before .before .before .before .before .before .before .before .before .before .before .before .before .before .before .before .before .before .before .before .before .if1 .left) in
-    let kind = kind-told (kindOf row) 001-record (sym (c .before .before .before .before .before .before .before .before .before .before .before .before .before .before .before .before .before .before .before .before .before .before .before .before .before .before .before .before .kind-of .ensures) ∙ c .before .before .before .before .before .before .before .before .before .before .before .before .before .before .before .before .before .before .before .before .before .before .before .before .before .before .enum-told7 .given .1) in
+    let kind = kind-told (kindOf row) 001-record (sym (c .before .before .before .before .before .before .before .before .before .before .before .before .before .before .before .before .before .before .before .before .before .before .before .before .before .before .before .before .kind-of .ensures) ∙ ap kindSays (c .before .before .before .before .before .before .before .before .before .before .before .before .before .before .before .before .before .before .before .before .before .before .before .before .before .before .enum-told7 .given .1)) in
     stepped (a .number .0) (asCount (a .c)) t row (c .before .before .before .before .before .before .before .before .before .before .before .before .before .before .before .before .step-player .result) _ (s .pre .1 .1 .0 .accelerations, s .pre .1 .1 .0 .text) (s .pre .1 .1 .1) (λ ln end e. c .before .before .before .before .before .before .before .before .before .before .before .before .before .before .before .before .step-player .ensures .0 ln (now (a .text)) e ∙ by-kind row end (state ln (asCount (a .c)) t) all 001-record (c .before .before .before .before .before .before .before .before .before .before .before .before .before .before .before .before .before .before .before .before .before .before .before .before .before .before .before .before .before .if2 .left) kind) (c .before .before .before .before .before .before .before .before .before .before .before .before .before .before .before .before .step-player .ensures .1)
 
 returns-10 : tie.Need-returns-10
@@ -203,7 +204,7 @@ returns-10 c =
     let row = a .line .now in
     let t = (nine (now (a .starts)) (now (a .points)) (now (a .ranks)) (now (a .kept)) (now (a .opponents)) (now (a .colours)) (now (a .results)) (now (a .text)) (now (a .lines))) in
     let all = sym (c .before .before .before .before .before .all-allowed .ensures) ∙ not-false _ (c .before .before .before .before .if1 .left) in
-    let kind = kind-told (kindOf row) unlisted (sym (c .before .before .kind-of .ensures) ∙ c .enum-told8 .given .1) in
+    let kind = kind-told (kindOf row) unlisted (sym (c .before .before .kind-of .ensures) ∙ ap kindSays (c .enum-told8 .given .1)) in
     stepped (a .number .0) (asCount (a .c)) t row (record { fault = 6; counts = a .c }) _ (s .pre .1 .1 .0 .accelerations, s .pre .1 .1 .0 .text) (s .pre .1 .1 .1) (λ ln end e. refl ∙ by-kind row end (state ln (asCount (a .c)) t) all unlisted (c .before .before .before .if2 .left) kind) (s .pre .1 .0)
 
 pub step-spec : {M : Type 1} → statement M

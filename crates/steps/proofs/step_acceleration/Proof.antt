@@ -5,8 +5,9 @@ use borrow.Author.Tests.{lt-ltb, le-ltb}
 use borrow.Author.Needs.{needs}
 use Rattle.law.specs.Sizes.{mostAccelerations}
 use Rattle.law.proofs.RecordsRead.{accelerationOf}
+use Rattle.fields.proofs.Cases.{value-said, none-said}
+use Rattle.records.specs.Records.{acceleratedSays}
 use Rattle.steps.specs.Counts.{asCount, withLines}
-use Rattle.steps.proofs.Answers.{acceleration-there, no-acceleration}
 use Rattle.steps.proofs.Went.{acceleration-bad, acceleration-full, acceleration-on}
 use Rattle.steps.proofs.step_acceleration.Statement.{statement}
 use Rattle.steps.proofs.step_acceleration.Tie as tie
@@ -24,7 +25,7 @@ returns : tie.Need-returns
 returns c =
     let a = c .before .before .before .before .before .args in
     let o = accelerationOf (a .line .now) in
-    λ ln t e. acceleration-bad ln (asCount (a .c)) (withLines t (a .lines .now)) o (no-acceleration o (sym (c .before .before .acceleration-of .ensures) ∙ c .enum-told .given .1))
+    λ ln t e. acceleration-bad ln (asCount (a .c)) (withLines t (a .lines .now)) o (none-said o (sym (c .before .before .acceleration-of .ensures) ∙ ap acceleratedSays (c .enum-told .given .1)))
 
 add-if1 : tie.Need-add-if1
 add-if1 c = search needs
@@ -34,7 +35,7 @@ returns-2 c =
     let a = c .before .before .before .before .before .before .before .args in
     let o = accelerationOf (a .line .now) in
     λ ln t e.
-    acceleration-full ln (asCount (a .c)) (withLines t (a .lines .now)) o _ (acceleration-there o _ (sym (c .before .before .before .before .acceleration-of .ensures) ∙ c .before .before .a .given .1)) (lt-ltb mostAccelerations _ (c .if1 .taken))
+    acceleration-full ln (asCount (a .c)) (withLines t (a .lines .now)) o _ (value-said o _ (sym (c .before .before .before .before .acceleration-of .ensures) ∙ ap acceleratedSays (c .before .before .a .given .1))) (lt-ltb mostAccelerations _ (c .if1 .taken))
 
 store-record-line-requires : tie.Need-store-record-line-requires
 store-record-line-requires c κs = search needs
@@ -50,7 +51,7 @@ returns-3 c =
     let a = c .before .before .before .before .before .before .before .before .before .before .before .before .args in
     let o = accelerationOf (a .line .now) in
     λ ln t e.
-    acceleration-on ln (asCount (a .c)) (withLines t (a .lines .now)) o _ (acceleration-there o _ (sym (c .before .before .before .before .before .before .before .before .before .acceleration-of .ensures) ∙ c .before .before .before .before .before .before .before .a .given .1)) (le-ltb mostAccelerations _ (c .before .before .before .before .before .if1 .left))
+    acceleration-on ln (asCount (a .c)) (withLines t (a .lines .now)) o _ (value-said o _ (sym (c .before .before .before .before .before .before .before .before .before .acceleration-of .ensures) ∙ ap acceleratedSays (c .before .before .before .before .before .before .before .a .given .1))) (le-ltb mostAccelerations _ (c .before .before .before .before .before .if1 .left))
     (c .with-acceleration .ensures) (c .before .before .before .store-record-line .ensures ∙ ap (set (a .lines .now) _) e)
 
 pub step-acceleration-spec : {M : Type 1} → statement M

@@ -1,10 +1,11 @@
 -- `steps::step_colour` meets its contract. Assumes nothing.
-use mathlib.Core.Path.{sym, _∙_}
+use mathlib.Core.Path.{sym, ap, _∙_}
 use borrow.Author.Tests.{eq-eqb, ne-eqb}
 use borrow.Author.Needs.{needs}
 use Rattle.law.proofs.RecordsRead.{colourOf}
+use Rattle.fields.proofs.Cases.{value-said, none-said}
+use Rattle.records.specs.Records.{initialSays}
 use Rattle.steps.specs.Counts.{asCount}
-use Rattle.steps.proofs.Answers.{colour-there, no-colour}
 use Rattle.steps.proofs.Went.{colour-bad, colour-again, colour-on}
 use Rattle.steps.proofs.step_colour.Statement.{statement}
 use Rattle.steps.proofs.step_colour.Tie as tie
@@ -22,13 +23,13 @@ returns : tie.Need-returns
 returns c =
     let a = c .before .before .before .before .args in
     let o = colourOf (a .line .now) in
-    λ ln t. colour-bad ln (asCount (a .c)) t o (no-colour o (sym (c .before .before .colour-of .ensures) ∙ c .enum-told .given .1))
+    λ ln t. colour-bad ln (asCount (a .c)) t o (none-said o (sym (c .before .before .colour-of .ensures) ∙ ap initialSays (c .enum-told .given .1)))
 
 returns-2 : tie.Need-returns-2
 returns-2 c =
     let a = c .before .before .before .before .before .before .before .args in
     let o = colourOf (a .line .now) in
-    λ ln t. colour-again ln (asCount (a .c)) t o _ (colour-there o _ (sym (c .before .before .before .before .before .colour-of .ensures) ∙ c .before .before .before .colour .given .1)) (ne-eqb (a .c .colour) 0 (c .if1 .taken))
+    λ ln t. colour-again ln (asCount (a .c)) t o _ (value-said o _ (sym (c .before .before .before .before .before .colour-of .ensures) ∙ ap initialSays (c .before .before .before .colour .given .1))) (ne-eqb (a .c .colour) 0 (c .if1 .taken))
 
 with-colour-requires : tie.Need-with-colour-requires
 with-colour-requires c κs = search needs
@@ -37,7 +38,7 @@ returns-3 : tie.Need-returns-3
 returns-3 c =
     let a = c .before .before .before .before .before .before .before .before .args in
     let o = colourOf (a .line .now) in
-    λ ln t. colour-on ln (asCount (a .c)) t o _ (colour-there o _ (sym (c .before .before .before .before .before .before .colour-of .ensures) ∙ c .before .before .before .before .colour .given .1)) (eq-eqb (a .c .colour) 0 (c .before .if1 .left)) (c .with-colour .ensures)
+    λ ln t. colour-on ln (asCount (a .c)) t o _ (value-said o _ (sym (c .before .before .before .before .before .before .colour-of .ensures) ∙ ap initialSays (c .before .before .before .before .colour .given .1))) (eq-eqb (a .c .colour) 0 (c .before .if1 .left)) (c .with-colour .ensures)
 
 pub step-colour-spec : {M : Type 1} → statement M
 step-colour-spec =

@@ -6,6 +6,7 @@ use Rattle.law.specs.Columns.{part, codeField}
 use Rattle.law.specs.Text.{textCodes}
 use Rattle.law.proofs.RecordsRead.{textOf}
 use Rattle.join.specs.Store.{codePlace}
+use Rattle.records.specs.Records.{textSays}
 use Rattle.steps.specs.Counts.{asCount, withText}
 use Rattle.steps.proofs.Answers.{front-of, no-text}
 use Rattle.steps.proofs.Went.{text-bad, text-again, text-full, text-on}
@@ -25,7 +26,7 @@ returns : tie.Need-returns
 returns c =
     let a = c .before .before .before .before .before .args in
     let row = a .line .now in
-    λ ln t. text-bad ln (asCount (a .c)) (withText t (a .text .now)) (textOf row) (codePlace (part codeField row) 0 textCodes) (no-text (textOf row) (sym (c .before .before .text-of .ensures) ∙ c .enum-told .given .1))
+    λ ln t. text-bad ln (asCount (a .c)) (withText t (a .text .now)) (textOf row) (codePlace (part codeField row) 0 textCodes) (no-text (textOf row) (sym (c .before .before .text-of .ensures) ∙ ap textSays (c .enum-told .given .1)))
 
 text-place-requires : tie.Need-text-place-requires
 text-place-requires c κs = search needs
@@ -37,14 +38,14 @@ returns-2 : tie.Need-returns-2
 returns-2 c =
     let a = c .before .before .before .before .before .before .before .before .before .args in
     let row = a .line .now in
-    let f = front-of row _ (sym (c .before .before .before .before .before .before .text-of .ensures) ∙ c .before .before .before .before .n .given .1) in
+    let f = front-of row _ (sym (c .before .before .before .before .before .before .text-of .ensures) ∙ ap textSays (c .before .before .before .before .n .given .1)) in
     λ ln t. text-again ln (asCount (a .c)) (withText t (a .text .now)) row _ f (codePlace (part codeField row) 0 textCodes) (c .before .before .text-place .ensures .0) (c .if1 .taken)
 
 add-if2 : tie.Need-add-if2
 add-if2 c =
     let a = c .before .before .before .before .before .before .before .before .before .args in
     let row = a .line .now in
-    let f = front-of row _ (sym (c .before .before .before .before .before .before .text-of .ensures) ∙ c .before .before .before .before .n .given .1) in
+    let f = front-of row _ (sym (c .before .before .before .before .before .before .text-of .ensures) ∙ ap textSays (c .before .before .before .before .n .given .1)) in
     let p = c .before .before .before .before .before .before .before .before .before .pre in
     search needs
 
@@ -52,7 +53,7 @@ add-if2-2 : tie.Need-add-if2-2
 add-if2-2 c =
     let a = c .before .before .before .before .before .before .before .before .before .before .args in
     let row = a .line .now in
-    let f = front-of row _ (sym (c .before .before .before .before .before .before .before .text-of .ensures) ∙ c .before .before .before .before .before .n .given .1) in
+    let f = front-of row _ (sym (c .before .before .before .before .before .before .before .text-of .ensures) ∙ ap textSays (c .before .before .before .before .before .n .given .1)) in
     let p = c .before .before .before .before .before .before .before .before .before .before .pre in
     search needs
 
@@ -60,14 +61,14 @@ returns-3 : tie.Need-returns-3
 returns-3 c =
     let a = c .before .before .before .before .before .before .before .before .before .before .before .args in
     let row = a .line .now in
-    let f = front-of row _ (sym (c .before .before .before .before .before .before .before .before .text-of .ensures) ∙ c .before .before .before .before .before .before .n .given .1) in
+    let f = front-of row _ (sym (c .before .before .before .before .before .before .before .before .text-of .ensures) ∙ ap textSays (c .before .before .before .before .before .before .n .given .1)) in
     λ ln t. text-full ln (asCount (a .c)) (withText t (a .text .now)) row _ f (codePlace (part codeField row) 0 textCodes) (c .before .before .before .before .text-place .ensures .0) (c .before .before .if1 .left) (c .if2 .taken)
 
 store-text-requires : tie.Need-store-text-requires
 store-text-requires c κs =
     let a = c .before .before .before .before .before .before .before .before .before .before .before .before .args in
     let row = a .line .now in
-    let f = front-of row _ (sym (c .before .before .before .before .before .before .before .before .before .text-of .ensures) ∙ c .before .before .before .before .before .before .before .n .given .1) in
+    let f = front-of row _ (sym (c .before .before .before .before .before .before .before .before .before .text-of .ensures) ∙ ap textSays (c .before .before .before .before .before .before .before .n .given .1)) in
     let p = c .before .before .before .before .before .before .before .before .before .before .before .before .pre in
     let room = c .before .if2 .left in
     (omega (arith, room, p), f .within)
@@ -85,7 +86,7 @@ returns-4 : tie.Need-returns-4
 returns-4 c =
     let a = c .before .before .before .before .before .before .before .before .before .before .before .before .before .before .before .before .args in
     let row = a .line .now in
-    let f = front-of row _ (sym (c .before .before .before .before .before .before .before .before .before .before .before .before .before .text-of .ensures) ∙ c .before .before .before .before .before .before .before .before .before .before .before .n .given .1) in
+    let f = front-of row _ (sym (c .before .before .before .before .before .before .before .before .before .before .before .before .before .text-of .ensures) ∙ ap textSays (c .before .before .before .before .before .before .before .before .before .before .before .n .given .1)) in
     λ ln t.
     text-on ln (asCount (a .c)) (withText t (a .text .now)) row _ f (codePlace (part codeField row) 0 textCodes) (c .before .before .before .before .before .before .before .before .before .text-place .ensures .0) (c .before .before .before .before .before .before .before .if1 .left) (c .before .before .before .before .before .if2 .left) (c .with-text .ensures)
     (c .before .before .before .store-text .ensures)

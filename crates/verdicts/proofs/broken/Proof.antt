@@ -1,30 +1,37 @@
 -- `verdicts::broken` meets its contract. Assumes nothing.
-use Prim.Native.Nat.{_*_}
+use mathlib.Core.Path.{ap, _∙_}
+use Prim.Native.Nat.{ℕ, _*_}
 use native.Mathlib.Omega.{arith}
 use denote.Ref.{now}
 use borrow.Author.Needs.{needs}
+use Rattle.kit.specs.Decides.{to}
 use Rattle.law.specs.Sizes.{mostRounds}
 use Rattle.join.specs.Grid.{firstFrom}
-use Rattle.join.specs.Check.{brokenCell}
+use Rattle.join.specs.Check.{brokenCell, atPlayer}
 use Rattle.checks.specs.Laws.{asLaw, four}
 use Rattle.checks.proofs.Told.{told-under}
+use Rattle.verdicts.specs.Verdict.{asVerdict}
 use Rattle.verdicts.proofs.broken.Statement.{statement}
 use Rattle.verdicts.proofs.broken.Tie as tie
 
 first-broken-requires : tie.Need-first-broken-requires
 first-broken-requires c κs = search needs
 
+law-number-requires : tie.Need-law-number-requires
+law-number-requires c κs = tt
+
 at-turn-requires : tie.Need-at-turn-requires
 at-turn-requires c κs =
-    let s = c .before .before .before .before .before .before in
+    let s = c .before .before .before .before .before .before .before in
     let a = s .args in
-    (s .pre .1, λ k e. omega (arith, s .pre .0 .1 .few, told-under (brokenCell (asLaw (a .kind)) (a .n) (a .rounds) (four (now (a .starts)) (now (a .opponents)) (now (a .colours)) (now (a .results)))) (a .n * mostRounds) (c .first-broken .ensures) e))
+    (s .pre .1, λ k e. omega (arith, s .pre .0 .1 .few, told-under (brokenCell (asLaw (a .kind)) (a .n) (a .rounds) (four (now (a .starts)) (now (a .opponents)) (now (a .colours)) (now (a .results)))) (a .n * mostRounds) (c .before .first-broken .ensures) e))
 
 returns : tie.Need-returns
 returns c =
-    let a = c .before .before .before .before .before .before .before .args in
-    c .at-turn .ensures (firstFrom (brokenCell (asLaw (a .kind)) (a .n) (a .rounds) (four (now (a .starts)) (now (a .opponents)) (now (a .colours)) (now (a .results)))) 0 (a .n * mostRounds)) (c .before .first-broken .ensures)
+    let a = c .before .before .before .before .before .before .before .before .args in
+    let o = firstFrom (brokenCell (asLaw (a .kind)) (a .n) (a .rounds) (four (now (a .starts)) (now (a .opponents)) (now (a .colours)) (now (a .results)))) 0 (a .n * mostRounds) in
+    c .at-turn .ensures o (c .before .before .first-broken .ensures) ∙ ap (λ (k : ℕ). asVerdict (to (atPlayer k (now (a .lines))) o)) (c .before .law-number .ensures)
 
 pub broken-spec : {M : Type 1} → statement M
 broken-spec =
-    tie.close (tie.spec first-broken-requires at-turn-requires returns)
+    tie.close (tie.spec first-broken-requires law-number-requires at-turn-requires returns)

@@ -1,0 +1,2 @@
+pub mod PlayerRounds
+pub mod PlayerLines

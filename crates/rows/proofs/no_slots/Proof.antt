@@ -1,0 +1,12 @@
+-- `rows::no_slots` meets its contract. Assumes nothing.
+use mathlib.Core.Path.{refl}
+use Rattle.rows.specs.Rows.{noSlots}
+use Rattle.rows.proofs.no_slots.Statement.{statement}
+use Rattle.rows.proofs.no_slots.Tie as tie
+
+returns : tie.Need-returns
+unfolding noSlots
+returns c = refl
+
+pub no-slots-spec : {M : Type 1} → statement M
+no-slots-spec = tie.close (tie.spec returns)
