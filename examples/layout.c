@@ -41,16 +41,12 @@ static uint8_t file[FILE_BYTES];
 static uint8_t out[WRITTEN];
 static int failures;
 
-static void differs(const char *what, uint64_t got, uint64_t wanted)
-{
-    failures++;
-    printf("layout: %s is %llu, not %llu\n", what, (unsigned long long)got, (unsigned long long)wanted);
-}
-
 static void same(const char *what, uint64_t got, uint64_t wanted)
 {
-    if (got != wanted)
-        differs(what, got, wanted);
+    if (got == wanted)
+        return;
+    failures++;
+    printf("layout: %s is %llu, not %llu\n", what, (unsigned long long)got, (unsigned long long)wanted);
 }
 
 /* So many bytes as a number, the lowest first. */
@@ -92,7 +88,6 @@ static void left_behind(const char *what, const uint8_t *raw, size_t size, int p
 static void accelerations(void)
 {
     static const uint32_t wanted[2][5] = {{401, 1, 3, 1, 300}, {2, 4, 17, 258, 9999}};
-    same("size of trf_acceleration", sizeof(trf_acceleration), 20);
     for (size_t i = 0; i < 2; i++) {
         const trf_acceleration *seen = &tables.accelerations[i];
         const uint8_t *raw = (const uint8_t *)tables.accelerations + 20 * i;
@@ -139,7 +134,6 @@ static trf_answer answers(int pattern, uint32_t number, uint32_t line, uint32_t 
     prepare(raw, pattern);
     raw_read(raw, file, FILE_BYTES, TRF_LENT(tables), tables.lines, TRF_LINE_CELLS);
     trf_answer seen = trf_read(file, FILE_BYTES, TRF_LENT(tables), tables.lines, TRF_LINE_CELLS);
-    same("size of trf_answer", sizeof seen, 64);
     PART(trf_answer, seen, raw, number, 0, 4, number);
     PART(trf_answer, seen, raw, line.line, 4, 4, line);
     PART(trf_answer, seen, raw, round, 8, 4, round);
@@ -160,7 +154,6 @@ static void writes(trf_answer answer, int pattern, size_t room, uint32_t number,
     memset(raw, pattern, ROOM);
     raw_write(raw, answer, TRF_LENT(tables), out, room);
     trf_written seen = trf_write(answer, TRF_LENT(tables), out, room);
-    same("size of trf_written", sizeof seen, 24);
     PART(trf_written, seen, raw, number, 0, 4, number);
     PART(trf_written, seen, raw, line.line, 4, 4, 0);
     PART(trf_written, seen, raw, round, 8, 4, 0);
@@ -174,7 +167,6 @@ static void asks(trf_answer answer, int pattern, uint32_t place, uint32_t round,
     memset(raw, pattern, ROOM);
     raw_ask(raw, answer, TRF_LENT(tables), (trf_place){place}, round);
     trf_score seen = trf_ask(answer, TRF_LENT(tables), (trf_place){place}, round);
-    same("size of trf_score", sizeof seen, 20);
     PART(trf_score, seen, raw, number, 0, 4, number);
     PART(trf_score, seen, raw, line.line, 4, 4, 0);
     PART(trf_score, seen, raw, round, 8, 4, 0);
@@ -205,18 +197,32 @@ static void refused(int pattern)
     uint8_t *last = file + FILE_BYTES - 2 * 120 - 2;
     *last = '=';
     answers(pattern, TRF_RESULTS, 308, 3, 0, 0, 0, 0, 0, none);
+    uint64_t used = 0;
     for (size_t i = 0; i < sizeof tables; i++)
-        same("a byte of a table after a refusal", ((const uint8_t *)&tables)[i], 0);
+        used += ((const uint8_t *)&tables)[i] != 0;
+    same("bytes of the tables that are not cleared after a refusal", used, 0);
     *last = '1';
+}
+
+static void sizes(void)
+{
+    same("size of trf_place", sizeof(trf_place), 4);
+    same("size of trf_line", sizeof(trf_line), 4);
+    same("size of trf_acceleration", sizeof(trf_acceleration), 20);
+    same("size of trf_answer", sizeof(trf_answer), 64);
+    same("size of trf_answer.values", sizeof((trf_answer *)0)->values, 24);
+    same("size of trf_written", sizeof(trf_written), 24);
+    same("size of trf_score", sizeof(trf_score), 20);
 }
 
 int check_layout(void)
 {
     static const int patterns[] = {0xA5, 0x5A};
+    sizes();
+    if (failures != 0)
+        return FAILED; /* a call would write past what is answered */
     memset(file, '\r', EMPTY_LINES);
     memcpy(file + EMPTY_LINES, report, FILE_BYTES - EMPTY_LINES);
-    same("size of trf_place", sizeof(trf_place), 4);
-    same("size of trf_line", sizeof(trf_line), 4);
     for (size_t i = 0; i < 2; i++) {
         accepted(patterns[i]);
         refused(patterns[i]);

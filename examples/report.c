@@ -29,8 +29,10 @@ static int load(const char *name, size_t *n)
     FILE *from = name ? fopen(name, "rb") : stdin;
     *n = from ? fread(file, 1, sizeof file, from) : 0;
     int failed = !from || ferror(from);
-    if (failed)
+    if (failed) {
+        fflush(stdout);
         fprintf(stderr, "report: cannot read %s\n", name ? name : "standard input");
+    }
     if (from && name)
         fclose(from);
     return failed ? UNUSABLE : DONE;
