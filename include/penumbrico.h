@@ -113,6 +113,9 @@ typedef struct {
     uint32_t acceleration;
 } trf_score;
 
+/* The archive has the structs as x86-64 lays them out; a compiler that does otherwise is refused here. */
+typedef char trf_structs_as_on_x86_64[sizeof(trf_acceleration) == 20 && sizeof(trf_answer) == 64 && sizeof(trf_written) == 24 && sizeof(trf_score) == 20 ? 1 : -1];
+
 /* Reads a file into the tables. A refusal of 2 to 17 puts zero in every listed cell; 1 touches none. */
 trf_answer trf_read(const uint8_t *file, size_t file_bytes,
                     uint32_t *starts, size_t starts_cells,
