@@ -1,6 +1,10 @@
 /* Penumbrico, the hall box: report files (TRF16, with individual records of the TRF25 draft) read into tables, written, and asked for a score.
-   Link with the archive that `rt staticlib face` writes. The calls ask nothing of what they are lent: every input gets an answer. A table is a pointer
-   and the number of its cells; no table may overlap another or the file. The calls keep nothing between them and use no heap. */
+
+   Link with target/staticlib/libface.a, which `rt staticlib face` writes for x86-64.
+
+   The calls ask nothing of what stands in the memory that they are lent: every input gets an answer. A table is lent as a pointer and the number of its
+   cells; the memory must be there, aligned as its type asks, and what a call writes to may overlap nothing else that it is lent. The calls keep nothing
+   from one to the next, use no heap, and of the C library need memcpy and memset alone. A reading takes some 30,000 bytes of stack. */
 #ifndef PENUMBRICO_H
 #define PENUMBRICO_H
 
@@ -19,54 +23,54 @@ extern "C" {
 
 /* What the box carries at most. */
 enum {
-    TRF_MOST_FILE = 65535,
-    TRF_MOST_LINE = 512,
+    TRF_MOST_FILE = 65535,       /* bytes of a file */
+    TRF_MOST_LINE = 512,         /* bytes of a line, terminator not counted */
     TRF_MOST_PLAYERS = 200,
     TRF_MOST_ROUNDS = 20,
-    TRF_MOST_ACCELERATIONS = 32,
-    TRF_MOST_TEXT = 2048,
-    TRF_MOST_WRITTEN = 61141 /* the longest report that trf_write produces */
+    TRF_MOST_ACCELERATIONS = 32, /* 250 records */
+    TRF_MOST_TEXT = 2048,        /* bytes of kept text lines, each with its CR */
+    TRF_MOST_WRITTEN = 61141     /* the longest report that trf_write produces */
 };
 
-/* The cells that each lent table must have; cells past these are never written. */
+/* The cells that each lent table must have; cells past these are never written. Places count from 0 and rounds from 1. */
 enum {
-    TRF_PLAYER_CELLS = 200,       /* starts, points, ranks: one a player */
-    TRF_KEPT_CELLS = 14000,       /* 70 a player: columns 10 to 79 of its line */
-    TRF_ENTRY_CELLS = 4000,       /* opponents, colours, results: twenty a player, the r-th for round r */
-    TRF_TEXT_CELLS = 2048,        /* the kept text lines, each ended by one CR */
-    TRF_ACCELERATION_CELLS = 32,  /* one a 250 record */
-    TRF_LINE_CELLS = 232          /* line numbers: 200 players, then 32 acceleration records */
+    TRF_PLAYER_CELLS = 200,      /* starts, points (in tenths), ranks: cell place */
+    TRF_KEPT_CELLS = 14000,      /* columns 10 to 79 of the players' lines: 70 cells from 70 * place on */
+    TRF_ENTRY_CELLS = 4000,      /* opponents, colours, results: cell 20 * place + round - 1 */
+    TRF_TEXT_CELLS = 2048,       /* the kept text lines, each ended by one CR */
+    TRF_ACCELERATION_CELLS = 32, /* the 250 records, in file order */
+    TRF_LINE_CELLS = 232         /* line numbers: of the player at cell place, of the 250 record i at cell 200 + i */
 };
 
-/* The refusals. docs/REFUSALS.md says what to do about each. */
-enum {
+/* The refusals, each in one line. docs/REFUSALS.md says of each where its line and round point and what to do about it. */
+enum trf_refusal {
     TRF_ACCEPTED = 0,
-    TRF_TABLE_SHORT = 1,        /* a lent table is too short: nothing was touched */
-    TRF_FILE_BIG = 2,           /* the file is over 65,535 bytes */
-    TRF_BAD_BYTE = 3,           /* a byte that is not allowed in the line */
-    TRF_NO_CR = 4,              /* the last line has no CR */
-    TRF_LINE_LONG = 5,          /* the line is over 512 bytes */
-    TRF_UNLISTED = 6,           /* the line is a record that the box does not carry */
-    TRF_BAD_FIELD = 7,          /* a field or column of the line is against its rule */
-    TRF_AGAIN = 8,              /* a record that stands once, or a start number, stands again */
-    TRF_TOO_MANY = 9,           /* one player, acceleration record or byte of kept text too many */
-    TRF_INCOMPLETE = 10,        /* no tournament name (012) or no player (001) */
-    TRF_PAST_ROUNDS = 11,       /* an entry in a round past the number of rounds (142) */
-    TRF_NO_ENTRY = 12,          /* an entry is neither a bye nor a game */
-    TRF_NOT_MUTUAL = 13,        /* the opponent's entry does not name this player with the other colour */
-    TRF_RESULTS = 14,           /* the results of a game do not fit each other */
-    TRF_SECOND_U = 15,          /* a second pairing-allocated bye in one round */
-    TRF_POINTS = 16,            /* the stated points are not the sum of the entries */
-    TRF_OVERLAP = 17,           /* two acceleration records share a round and a start number */
-    TRF_NO_READING = 18,        /* write, ask: no accepted file has this answer and these tables */
-    TRF_OUT_SHORT = 19,         /* write: the output is too short, and was not touched */
-    TRF_NO_PLACE = 20           /* ask: no such place or round */
+    TRF_TABLE_SHORT = 1,  /* a lent table is too short */
+    TRF_FILE_BIG = 2,     /* the file is over 65,535 bytes */
+    TRF_BAD_BYTE = 3,     /* the line has a byte that is not allowed */
+    TRF_NO_CR = 4,        /* the last line has no CR */
+    TRF_LINE_LONG = 5,    /* the line is over 512 bytes */
+    TRF_UNLISTED = 6,     /* the line is a record that the box does not carry */
+    TRF_BAD_FIELD = 7,    /* a field or column of the line is against its rule */
+    TRF_AGAIN = 8,        /* a record that may stand once, or a start number, stands again */
+    TRF_TOO_MANY = 9,     /* more players, acceleration records or text than the box carries */
+    TRF_INCOMPLETE = 10,  /* no tournament name (012) or no player (001) */
+    TRF_PAST_ROUNDS = 11, /* an entry in a round past the number of rounds (142) */
+    TRF_NO_ENTRY = 12,    /* an entry is neither a bye nor a game */
+    TRF_NOT_MUTUAL = 13,  /* the opponent's entry does not name this player with the other colour */
+    TRF_RESULTS = 14,     /* the two results of a game do not fit each other */
+    TRF_SECOND_U = 15,    /* a second pairing-allocated bye (U) in one round */
+    TRF_POINTS = 16,      /* the stated points are not the sum of the rounds */
+    TRF_OVERLAP = 17,     /* two acceleration records (250) share a round and a start number */
+    TRF_NO_READING = 18,  /* writing or asking: no accepted file has this reading */
+    TRF_OUT_SHORT = 19,   /* writing: the output is too short */
+    TRF_NO_PLACE = 20     /* asking: no such player or round */
 };
 
 /* A player's place in the tables, from 0: not a start number, not a rank. */
 typedef struct { uint32_t place; } trf_place;
 
-/* A line of the file, from 1; 0 where a refusal has no line. */
+/* A line of the file, from 1, comments and empty lines counted too; 0 where a refusal has no line. */
 typedef struct { uint32_t line; } trf_line;
 
 /* One 250 record: points in tenths for the rounds and start numbers from first to last. */
@@ -109,6 +113,9 @@ typedef struct {
     uint32_t acceleration;
 } trf_score;
 
+/* The archive has the structs as x86-64 lays them out; a compiler that does otherwise is refused here. */
+typedef char trf_structs_as_on_x86_64[sizeof(trf_acceleration) == 20 && sizeof(trf_answer) == 64 && sizeof(trf_written) == 24 && sizeof(trf_score) == 20 ? 1 : -1];
+
 /* Reads a file into the tables. A refusal of 2 to 17 puts zero in every listed cell; 1 touches none. */
 trf_answer trf_read(const uint8_t *file, size_t file_bytes,
                     uint32_t *starts, size_t starts_cells,
@@ -147,6 +154,25 @@ trf_score trf_ask(trf_answer answer,
                   const uint8_t *text, size_t text_cells,
                   const trf_acceleration *accelerations, size_t accelerations_cells,
                   trf_place place, uint32_t round);
+
+/* The tables in one struct, for those who keep them together; no call asks for it. TRF_LENT lends all but the line numbers, as the three calls take them:
+       trf_read(file, file_bytes, TRF_LENT(t), t.lines, TRF_LINE_CELLS) */
+typedef struct {
+    uint32_t starts[TRF_PLAYER_CELLS];
+    uint32_t points[TRF_PLAYER_CELLS];
+    uint32_t ranks[TRF_PLAYER_CELLS];
+    uint8_t kept[TRF_KEPT_CELLS];
+    uint32_t opponents[TRF_ENTRY_CELLS];
+    uint8_t colours[TRF_ENTRY_CELLS];
+    uint8_t results[TRF_ENTRY_CELLS];
+    uint8_t text[TRF_TEXT_CELLS];
+    trf_acceleration accelerations[TRF_ACCELERATION_CELLS];
+    uint32_t lines[TRF_LINE_CELLS];
+} trf_tables;
+
+#define TRF_LENT(t)                                                                                                                                      \
+    (t).starts, TRF_PLAYER_CELLS, (t).points, TRF_PLAYER_CELLS, (t).ranks, TRF_PLAYER_CELLS, (t).kept, TRF_KEPT_CELLS, (t).opponents, TRF_ENTRY_CELLS,   \
+        (t).colours, TRF_ENTRY_CELLS, (t).results, TRF_ENTRY_CELLS, (t).text, TRF_TEXT_CELLS, (t).accelerations, TRF_ACCELERATION_CELLS
 
 #ifdef __cplusplus
 }

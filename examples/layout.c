@@ -1,0 +1,233 @@
+/* The structs of the header against what the library fills in. Sizes and offsets stand here as numbers. A report in which every part of an answer has a value
+   of its own is read, asked and written; each part must then be found at its offset in the bytes that the library left, and by its name in the struct. Nothing
+   is asked of the bytes between the parts. */
+#include "report.h"
+
+#include <stddef.h>
+#include <string.h>
+
+#include "penumbrico.h"
+
+/* The three calls as the machine knows them (System V, x86-64): the room of what is answered is lent as a first argument. So plain bytes, which held something
+   else before, are seen to be filled in. */
+#define LENT_TABLES                                                                                                                                        \
+    uint32_t *, size_t, uint32_t *, size_t, uint32_t *, size_t, uint8_t *, size_t, uint32_t *, size_t, uint8_t *, size_t, uint8_t *, size_t, uint8_t *,    \
+        size_t, trf_acceleration *, size_t
+void *raw_read(uint8_t *, const uint8_t *, size_t, LENT_TABLES, uint32_t *, size_t) __asm__("trf_read");
+void *raw_write(uint8_t *, trf_answer, LENT_TABLES, uint8_t *, size_t) __asm__("trf_write");
+void *raw_ask(uint8_t *, trf_answer, LENT_TABLES, trf_place, uint32_t) __asm__("trf_ask");
+
+/* Values above 255 wherever the rules allow them, so that a part's width is seen too; the empty lines before the report serve the line numbers. */
+enum { EMPTY_LINES = 300, TEXT = 273, WRITTEN = 885 };
+
+#define X65 "xxxxxxxxxxxxxxxxxxxxxxxxxxxxxxxxxxxxxxxxxxxxxxxxxxxxxxxxxxxxxxxxx"
+static const char report[] =
+    "012 Cup\r"
+    "112 " X65 X65 X65 X65 "\r"
+    "142 3\r"
+    "152 B\r"
+    "162  W30.0    D27.1    L 1.3    A 2.7    P30.9    X99.9\r"
+    "250      40.1 001 003 0001 0300\r"
+    "250      00.2 004 017 0258 9999\r"
+    "001    7 wWGM Roe                               2345 ESP    12345678 1980/01/31 62.2    1   300 w 1  0000 - U   300 b 0\r"
+    "001  300      Poe                                                               58.4    2     7 b 0  0000 - H     7 w 1\r"
+    "001    2      Moe                                                               87.1  300  9999 w =  9999 w +  0000 - F\r"
+    "001 9999      Zoe                                                               32.5    4     2 b =     2 b -  0000 - Z\r";
+
+enum { FILE_BYTES = EMPTY_LINES + sizeof report - 1 };
+
+static trf_tables tables;
+static uint8_t file[FILE_BYTES];
+static uint8_t out[WRITTEN];
+static int failures;
+
+static void same(const char *what, uint64_t got, uint64_t wanted)
+{
+    if (got == wanted)
+        return;
+    failures++;
+    printf("layout: %s is %llu, not %llu\n", what, (unsigned long long)got, (unsigned long long)wanted);
+}
+
+/* So many bytes as a number, the lowest first. */
+static uint64_t number_at(const uint8_t *bytes, size_t width)
+{
+    return width == 0 ? 0 : bytes[0] + 256 * number_at(bytes + 1, width - 1);
+}
+
+/* A part of a struct: where the compiler puts it and how wide, what it reads there, and what the library left in the stated bytes. */
+static void part(const char *name, size_t offset, size_t size, uint64_t value, const uint8_t *raw, size_t stated, size_t width, uint64_t wanted)
+{
+    if (offset == stated && size == width && value == wanted && number_at(raw + stated, width) == wanted)
+        return;
+    printf("layout: %s\n", name);
+    same("    its offset", offset, stated);
+    same("    its size", size, width);
+    same("    its value by name", value, wanted);
+    same("    its value in the library's bytes", number_at(raw + stated, width), wanted);
+}
+
+#define PART(type, seen, raw, name, stated, width, wanted) \
+    part(#type "." #name, offsetof(type, name), sizeof (seen).name, (seen).name, raw, stated, width, wanted)
+
+/* Room for an answer and what stands behind it, which the library must leave. */
+enum { ROOM = 128 };
+
+static void prepare(uint8_t *raw, int pattern)
+{
+    memset(raw, pattern, ROOM);
+    memset(&tables, pattern, sizeof tables);
+}
+
+static void left_behind(const char *what, const uint8_t *raw, size_t size, int pattern)
+{
+    for (size_t i = size; i < ROOM; i++)
+        same(what, raw[i], (uint8_t)pattern);
+}
+
+static void accelerations(void)
+{
+    static const uint32_t wanted[2][5] = {{401, 1, 3, 1, 300}, {2, 4, 17, 258, 9999}};
+    for (size_t i = 0; i < 2; i++) {
+        const trf_acceleration *seen = &tables.accelerations[i];
+        const uint8_t *raw = (const uint8_t *)tables.accelerations + 20 * i;
+        PART(trf_acceleration, *seen, raw, points, 0, 4, wanted[i][0]);
+        PART(trf_acceleration, *seen, raw, first_round, 4, 4, wanted[i][1]);
+        PART(trf_acceleration, *seen, raw, last_round, 8, 4, wanted[i][2]);
+        PART(trf_acceleration, *seen, raw, first_start, 12, 4, wanted[i][3]);
+        PART(trf_acceleration, *seen, raw, last_start, 16, 4, wanted[i][4]);
+    }
+    same("acceleration records past the second", number_at((const uint8_t *)tables.accelerations + 40, 8), 0);
+}
+
+/* Each table in its turn, so that no two of one type have changed places. */
+static void cells(void)
+{
+    static const uint32_t starts[] = {7, 300, 2, 9999, 0}, points[] = {622, 584, 871, 325, 0}, ranks[] = {1, 2, 300, 4, 0}, lines[] = {308, 309, 310, 311, 0};
+    static const uint32_t opponents[] = {300, 0, 300, 0, 7, 0, 7, 0, 9999, 9999, 0, 0, 2, 2, 0, 0};
+    static const char colours[] = "w-b\0b-w\0ww-\0bb-", results[] = "1U0\0" "0H1\0" "=+F\0" "=-Z";
+    for (size_t place = 0; place < 5; place++) {
+        same("a start number", tables.starts[place], starts[place]);
+        same("points", tables.points[place], points[place]);
+        same("a rank", tables.ranks[place], ranks[place]);
+        same("a player's line", tables.lines[place], lines[place]);
+    }
+    for (size_t i = 0; i < 16; i++) {
+        size_t cell = 20 * (i / 4) + i % 4;
+        same("an opponent", tables.opponents[cell], opponents[i]);
+        same("a colour", tables.colours[cell], (uint8_t)colours[i]);
+        same("a result", tables.results[cell], (uint8_t)results[i]);
+    }
+    same("the first 250 record's line", tables.lines[200], 306);
+    same("the second 250 record's line", tables.lines[201], 307);
+    same("kept columns of the first player", (uint64_t)memcmp(tables.kept, "wWGM Roe", 8), 0);
+    same("kept columns of the second player", (uint64_t)memcmp(tables.kept + 70, "     Poe", 8), 0);
+    same("kept text", (uint64_t)memcmp(tables.text, report, TEXT), 0);
+    same("text past the kept", tables.text[TEXT], 0);
+}
+
+/* What the library answers to the file, into bytes and by the struct; every number as stated. */
+static trf_answer answers(int pattern, uint32_t number, uint32_t line, uint32_t round, uint32_t players, uint32_t rounds, uint32_t records, size_t text,
+                          uint8_t colour, const uint32_t *values)
+{
+    uint8_t raw[ROOM];
+    prepare(raw, pattern);
+    raw_read(raw, file, FILE_BYTES, TRF_LENT(tables), tables.lines, TRF_LINE_CELLS);
+    trf_answer seen = trf_read(file, FILE_BYTES, TRF_LENT(tables), tables.lines, TRF_LINE_CELLS);
+    PART(trf_answer, seen, raw, number, 0, 4, number);
+    PART(trf_answer, seen, raw, line.line, 4, 4, line);
+    PART(trf_answer, seen, raw, round, 8, 4, round);
+    PART(trf_answer, seen, raw, players, 12, 4, players);
+    PART(trf_answer, seen, raw, rounds, 16, 4, rounds);
+    PART(trf_answer, seen, raw, accelerations, 20, 4, records);
+    PART(trf_answer, seen, raw, text, 24, 8, text);
+    PART(trf_answer, seen, raw, colour, 32, 1, colour);
+    for (size_t i = 0; i < 6; i++)
+        part("trf_answer.values[]", offsetof(trf_answer, values) + 4 * i, sizeof seen.values[i], seen.values[i], raw, 36 + 4 * i, 4, values[i]);
+    left_behind("a byte behind trf_answer", raw, sizeof seen, pattern);
+    return seen;
+}
+
+static void writes(trf_answer answer, int pattern, size_t room, uint32_t number, size_t length)
+{
+    uint8_t raw[ROOM];
+    memset(raw, pattern, ROOM);
+    raw_write(raw, answer, TRF_LENT(tables), out, room);
+    trf_written seen = trf_write(answer, TRF_LENT(tables), out, room);
+    PART(trf_written, seen, raw, number, 0, 4, number);
+    PART(trf_written, seen, raw, line.line, 4, 4, 0);
+    PART(trf_written, seen, raw, round, 8, 4, 0);
+    PART(trf_written, seen, raw, length, 16, 8, length);
+    left_behind("a byte behind trf_written", raw, sizeof seen, pattern);
+}
+
+static void asks(trf_answer answer, int pattern, uint32_t place, uint32_t round, uint32_t number, uint32_t points, uint32_t acceleration)
+{
+    uint8_t raw[ROOM];
+    memset(raw, pattern, ROOM);
+    raw_ask(raw, answer, TRF_LENT(tables), (trf_place){place}, round);
+    trf_score seen = trf_ask(answer, TRF_LENT(tables), (trf_place){place}, round);
+    PART(trf_score, seen, raw, number, 0, 4, number);
+    PART(trf_score, seen, raw, line.line, 4, 4, 0);
+    PART(trf_score, seen, raw, round, 8, 4, 0);
+    PART(trf_score, seen, raw, points, 12, 4, points);
+    PART(trf_score, seen, raw, acceleration, 16, 4, acceleration);
+    left_behind("a byte behind trf_score", raw, sizeof seen, pattern);
+}
+
+static void accepted(int pattern)
+{
+    static const uint32_t values[6] = {300, 271, 13, 27, 309, 999};
+    trf_answer answer = answers(pattern, TRF_ACCEPTED, 0, 0, 4, 3, 2, TEXT, 'B', values);
+    accelerations();
+    cells();
+    asks(answer, pattern, 0, 3, TRF_ACCEPTED, 609, 401);
+    asks(answer, pattern, 3, 3, TRF_ACCEPTED, 298, 0);
+    asks(answer, pattern, 4, 3, TRF_NO_PLACE, 0, 0);
+    writes(answer, pattern, WRITTEN - 1, TRF_OUT_SHORT, 0);
+    memset(out, pattern, sizeof out);
+    writes(answer, pattern, WRITTEN, TRF_ACCEPTED, WRITTEN);
+    same("the report, written in the spelling in which it was read", (uint64_t)memcmp(out, report, WRITTEN), 0);
+}
+
+/* The second player's last result no longer fits the first one's; the tables are cleared. */
+static void refused(int pattern)
+{
+    static const uint32_t none[6] = {0};
+    uint8_t *last = file + FILE_BYTES - 2 * 120 - 2;
+    *last = '=';
+    answers(pattern, TRF_RESULTS, 308, 3, 0, 0, 0, 0, 0, none);
+    uint64_t used = 0;
+    for (size_t i = 0; i < sizeof tables; i++)
+        used += ((const uint8_t *)&tables)[i] != 0;
+    same("bytes of the tables that are not cleared after a refusal", used, 0);
+    *last = '1';
+}
+
+static void sizes(void)
+{
+    same("size of trf_place", sizeof(trf_place), 4);
+    same("size of trf_line", sizeof(trf_line), 4);
+    same("size of trf_acceleration", sizeof(trf_acceleration), 20);
+    same("size of trf_answer", sizeof(trf_answer), 64);
+    same("size of trf_answer.values", sizeof((trf_answer *)0)->values, 24);
+    same("size of trf_written", sizeof(trf_written), 24);
+    same("size of trf_score", sizeof(trf_score), 20);
+}
+
+int check_layout(void)
+{
+    static const int patterns[] = {0xA5, 0x5A};
+    sizes();
+    if (failures != 0)
+        return FAILED; /* a call would write past what is answered */
+    memset(file, '\r', EMPTY_LINES);
+    memcpy(file + EMPTY_LINES, report, FILE_BYTES - EMPTY_LINES);
+    for (size_t i = 0; i < 2; i++) {
+        accepted(patterns[i]);
+        refused(patterns[i]);
+    }
+    if (failures == 0)
+        printf("layout: every part of trf_acceleration, trf_answer, trf_written and trf_score stands where the library puts it\n");
+    return failures == 0 ? DONE : FAILED;
+}
