@@ -135,7 +135,7 @@ typedef struct {
     const uint32_t *opponents;
     const uint8_t *colours, *results, *text;
     const trf_acceleration *list;
-    uint16_t after_place[MOST_START + 1]; /* of a start number: its place and 1 more, or 0 if nobody has it */
+    uint8_t after_place[MOST_START + 1]; /* of a start number: its place and 1 more, or 0 if nobody has it */
 } tournament;
 
 /* Where a rule is broken, if the number is not 0. */
@@ -529,7 +529,7 @@ static uint32_t read_player(reader *r, const record *line, uint32_t line_number)
         return TRF_TOO_MANY;
 
     uint32_t place = r->t.players++;
-    r->t.after_place[start] = (uint16_t)(place + 1);
+    r->t.after_place[start] = (uint8_t)(place + 1);
     r->lent.starts[place] = (uint32_t)start;
     r->lent.points[place] = (uint32_t)points;
     r->lent.ranks[place] = (uint32_t)rank;
@@ -780,7 +780,7 @@ static bool are_lawful_players(tournament *t)
         const uint8_t *kept = t->kept + place * KEPT_COLUMNS;
         if (start < 1 || start > MOST_START || t->after_place[start] != 0)
             return false;
-        t->after_place[start] = (uint16_t)(place + 1);
+        t->after_place[start] = (uint8_t)(place + 1);
         if (t->points[place] > MOST_POINTS || t->ranks[place] < 1 || t->ranks[place] > MOST_START)
             return false;
         if (!all_allowed(kept, KEPT_COLUMNS) || !is_kept(kept))
