@@ -1,10 +1,11 @@
 #!/usr/bin/env python3
-"""Measures the Rattle calls beside the plain C ones: bench.py [ratios] [linear] [stack] [profile CALL ROW] [--processes N].
+"""Measures the Rattle calls beside the plain C ones: bench.py [ratios] [linear] [stack] [--processes N], or bench.py profile CALL ROW.
 
-Without words it prints the three tables (as Markdown). `profile read 3` prints the functions of both programs for row 3 of the first table, dearest first.
+Without words it prints all tables (as Markdown). `profile read 3` prints the functions of both programs for row 3 of the first table, dearest first.
 bench/README.md says what is needed."""
 import datetime, glob, os, platform, shutil, statistics, subprocess, sys
 
+sys.dont_write_bytecode = True
 import files
 
 HERE = os.path.dirname(os.path.abspath(__file__))
@@ -97,7 +98,7 @@ def counted(dump):
 
 def counts(arguments):
     made = [counted(dump) for dump in dumps(arguments)]
-    return {(call, maker): made[2 * i + j] for i, call in enumerate(CALLS[:len(made) // 2]) for j, maker in enumerate(("ours", "plain"))}
+    return {(call, maker): [made[2 * i + j]] for i, call in enumerate(CALLS[:len(made) // 2]) for j, maker in enumerate(("ours", "plain"))}
 
 
 def pinned():
@@ -106,9 +107,9 @@ def pinned():
 
 
 def times(arguments, processes):
-    """Nanoseconds: the median over the processes of each one's median."""
+    """Nanoseconds by call and maker, one of each process, which is its own median."""
     each = [figures(run([*pinned(), DRIVER, "time", *arguments])) for _ in range(processes)]
-    return {key: statistics.median(one[key] for one in each) for key in each[0]}
+    return {key: [one[key] for one in each] for key in each[0]}
 
 
 def table(head, rows):
@@ -119,21 +120,27 @@ def table(head, rows):
     print()
 
 
-def ratio(figures_, call):
-    return f"{figures_[call, 'ours'] / figures_[call, 'plain']:.2f}" if (call, "ours") in figures_ else "-"
+def ratio(measured, call):
+    """The median of ours / plain, each pair of one process."""
+    if (call, "ours") not in measured:
+        return "-"
+    return f"{statistics.median(ours / plain for ours, plain in zip(measured[call, 'ours'], measured[call, 'plain'])):.2f}"
+
+
+def can_count():
+    return NATIVE and shutil.which("valgrind") is not None
 
 
 def ratios(processes):
-    can_count = NATIVE and shutil.which("valgrind")
     short, long = [], []
     for i, (name, data, lent) in enumerate(files.measured(), 1):
         arguments = kept_pair(f"row{i}", data, lent)
-        count = counts(arguments) if can_count else {}
+        count = counts(arguments) if can_count() else {}
         time = times(arguments, processes)
         short.append([f"{i}. {name}"] + [cell for call in CALLS for cell in (ratio(count, call), ratio(time, call))])
         for call in CALLS:
             if (call, "ours") in time:
-                ours, plain = ((f"{count[call, maker]:,}" if count else "-", f"{time[call, maker] / 1e3:,.1f}") for maker in ("ours", "plain"))
+                ours, plain = ((f"{count[call, maker][0]:,}" if count else "-", f"{statistics.median(time[call, maker]) / 1e3:,.1f}") for maker in ("ours", "plain"))
                 long.append([f"{i}. {call}", f"{len(data):,}", ours[0], plain[0], ours[1], plain[1]])
     print(f"Ours / plain C on {datetime.date.today()}, {platform.machine()}; times are medians over {processes} pinned processes.\n")
     table(["file"] + [f"{call}, {what}" for call in CALLS for what in ("instructions", "time")], short)
@@ -141,13 +148,21 @@ def ratios(processes):
 
 
 def linear():
-    rows = []
-    for i, (players, rounds, data) in enumerate(files.growing(), 1):
-        count = counts(kept_pair(f"growing{i}", data, None))
-        rows.append([f"{players} players, {rounds} rounds", f"{len(data):,}"]
-                    + [cell for call in CALLS for cell in (f"{count[call, 'ours']:,}", f"{count[call, 'ours'] / len(data):.2f}")])
-    print("Ours: instructions, and instructions a byte of the file.\n")
-    table(["file", "bytes"] + [head for call in CALLS for head in (call, "a byte")], rows)
+    if not can_count():
+        print("No instructions are counted here: that needs valgrind on an x86-64 host.\n")
+        return
+    for what, series in files.growing():
+        rows, before = [], None
+        for size, data in series:
+            count = counts(kept_pair(f"{what}{size}", data, None))
+            row = [f"{size} {what}s", f"{len(data):,}"]
+            for call in CALLS:
+                now = count[call, "ours"][0]
+                row += [f"{now:,}", f"{(now - before[1][call, 'ours'][0]) / (size - before[0]):,.0f}" if before else ""]
+            rows.append(row)
+            before = size, count
+        print(f"Ours, as the number of {what}s grows: instructions, and how many each further {what} costs.\n")
+        table(["file", "bytes"] + [head for call in CALLS for head in (call, f"a {what} more")], rows)
 
 
 def stack():
@@ -161,6 +176,8 @@ def stack():
 
 
 def profile(call, row):
+    if not can_count():
+        fail("a profile needs valgrind on an x86-64 host")
     _, data, lent = files.measured()[int(row) - 1]
     made = dumps(kept_pair(f"row{row}", data, lent))
     for j, maker in enumerate(("ours", "plain")):

@@ -88,5 +88,8 @@ def measured():
 
 
 def growing():
-    """Players, rounds, file."""
-    return [(p, 20, report(p, 20)) for p in (25, 50, 100, 200)] + [(200, r, report(200, r)) for r in (5, 10, 20)]
+    """Two series: what grows, and its sizes with their files."""
+    return [
+        ("player", [(players, report(players, 20)) for players in (25, 50, 100, 200)]),
+        ("round", [(rounds, report(200, rounds)) for rounds in (5, 10, 20)]),
+    ]
