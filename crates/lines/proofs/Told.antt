@@ -7,17 +7,21 @@ use lib.ListN.{drop}
 use Rattle.law.proofs.Cut.{cut}
 use Rattle.lines.specs.declared.Cursor.{Cursor}
 use Rattle.lines.specs.declared.Step.{Step}
-use Rattle.lines.specs.declared.Step.the-variants.{Whole, Broken, Done}
-use Rattle.lines.specs.Step.{BrokenAt, WholeAt, StepMeans}
+use Rattle.lines.specs.declared.Step.the-variants.{Whole, Broken, Foul, Done}
+use Rattle.lines.specs.Step.{BrokenAt, FoulAt, WholeAt, StepMeans}
 
 module _ (file : List ℕ) (at : ℕ) {step : Step} (means : StepMeans file at step) where
   pub told-done : step ≡ Done → cut false (drop at file) ≡ []
   unfolding StepMeans
   told-done e = subst (StepMeans file at) e means
 
-  pub told-broken : {from to : ℕ} → step ≡ Broken from to → BrokenAt file at from to
+  pub told-broken : step ≡ Broken → BrokenAt file at
   unfolding StepMeans
   told-broken e = subst (StepMeans file at) e means
+
+  pub told-foul : step ≡ Foul → FoulAt file at
+  unfolding StepMeans
+  told-foul e = subst (StepMeans file at) e means
 
   pub told-whole : {from to : ℕ} {next : Cursor} → step ≡ Whole from to next → WholeAt file at from to (next .at)
   unfolding StepMeans

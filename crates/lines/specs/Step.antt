@@ -1,15 +1,15 @@
 -- What a step of the cursor says: the lines of what is left are the line that it found and the lines from the next cursor on.
 use mathlib.Core.Path.{_≡_}
-use mathlib.Core.Bool.{false, cond}
+use mathlib.Core.Bool.{true, false}
 use mathlib.Core.Option.{none}
 use mathlib.Core.List.{List, [], _∷_}
 use Prim.Native.Nat.{ℕ, suc, _-_, _≤_, _<_}
 use lib.ListN.{length, getD, take, drop}
 use Rattle.kit.specs.Lists.{all}
-use Rattle.law.specs.Lines.{CR, startsWithLF, allowed}
+use Rattle.law.specs.Lines.{CR, Line, startsWithLF, allowed}
 use Rattle.law.proofs.Cut.{cut, endFor}
 use Rattle.lines.specs.declared.Step.{Step}
-use Rattle.lines.specs.declared.Step.the-variants.{Whole, Broken, Done}
+use Rattle.lines.specs.declared.Step.the-variants.{Whole, Broken, Foul, Done}
 
 -- no CR from at up to r
 abbrev pub NoCR : List ℕ → ℕ → ℕ → Type 0
@@ -22,26 +22,41 @@ pub record CRFrom (file : List ℕ) (at r : ℕ) : Type 0 where
   pub none-before : NoCR file at r
   pub there : r < length file → getD file r 0 ≡ CR
 
--- a last line, without its terminator
-pub record BrokenAt (file : List ℕ) (at from to : ℕ) : Type 0 where
-  pub start : from ≡ at
-  pub stop : to ≡ length file
-  pub forward : at ≤ to
-  pub lines : cut false (drop at file) ≡ record { text = take (to - from) (drop from file); end = none } ∷ []
+-- the bytes from at up to r are allowed
+abbrev pub Clean : List ℕ → ℕ → ℕ → Type 0
+Clean file at r = (k : ℕ) → k < r → at ≤ k → allowed (getD file k 0) ≡ true
 
--- a line with its terminator; next is the place past that
+-- r is the place of the first byte from at on, before to, that is not allowed, or to
+pub record Stop (file : List ℕ) (at to r : ℕ) : Type 0 where
+  pub after : at ≤ r
+  pub within : r ≤ to
+  pub clean : Clean file at r
+  pub there : r < to → allowed (getD file r 0) ≡ false
+
+-- a last line of allowed bytes, without its terminator
+pub record BrokenAt (file : List ℕ) (at : ℕ) : Type 0 where
+  pub text : List ℕ
+  pub clean : all allowed text ≡ true
+  pub lines : cut false (drop at file) ≡ record { text = text; end = none } ∷ []
+
+-- a line with a byte that is not allowed
+pub record FoulAt (file : List ℕ) (at : ℕ) : Type 0 where
+  pub line : Line
+  pub others : List Line
+  pub foul : all allowed (line .text) ≡ false
+  pub lines : cut false (drop at file) ≡ line ∷ others
+
+-- a line of allowed bytes with its terminator; next is the place past that
 pub record WholeAt (file : List ℕ) (at from to next : ℕ) : Type 0 where
   pub start : from ≡ at
   pub forward : at ≤ to
   pub past : to < next
   pub within : next ≤ length file
+  pub clean : all allowed (take (to - from) (drop from file)) ≡ true
   pub lines : cut false (drop at file) ≡ record { text = take (to - from) (drop from file); end = endFor (startsWithLF (drop (suc to) file)) } ∷ cut false (drop next file)
 
 unfoldable pub StepMeans : List ℕ → ℕ → Step → Type 0
 StepMeans file at Done = cut false (drop at file) ≡ []
-StepMeans file at (Broken from to) = BrokenAt file at from to
+StepMeans file at Broken = BrokenAt file at
+StepMeans file at Foul = FoulAt file at
 StepMeans file at (Whole from to next) = WholeAt file at from to (next .at)
-
--- a last line without its terminator: 3 before 4
-abbrev pub brokenFault : List ℕ → ℕ
-brokenFault text = cond (all allowed text) 4 3

@@ -2,67 +2,38 @@
 // what is left and the cursor after it. Promised: the lines found are those that the statement cuts the file into, with their terminators; a line passes
 // exactly where each of its bytes is allowed.
 ghost use mathlib.Core.Path.{_≡_};
-ghost use mathlib.Core.Bool.{true};
 ghost use Prim.Native.Nat.{_≤_};
 ghost use lib.ListN.{length};
 ghost use Rattle.kit.specs.Lists.{all};
 ghost use Rattle.law.specs.Sizes.{mostFile};
 ghost use Rattle.law.specs.Lines.{allowed};
-ghost use Rattle.lines.specs.Step.{NoCR, CRFrom, StepMeans, brokenFault};
+ghost use Rattle.lines.specs.Step.{CRFrom, Clean, Stop, StepMeans};
 
 const CR: u8 = 13;
 
 const LF: u8 = 10;
 
-// How many bytes are tested for a CR at once.
+// How many bytes are tested at once, and how many one by one before that.
 const BLOCK: usize = 32;
+
+const NEAR: usize = 4;
 
 // The place where the next line starts.
 pub struct Cursor {
     pub at: usize,
 }
 
-// What stands at a cursor: a line with its terminator, and the cursor past that; a last line without one; no line. A line's text is file[from..to].
+// What stands at a cursor: a line with its terminator, of allowed bytes, and the cursor past that; a last line without one; a line with a byte that is not allowed, with or
+// without its terminator; no line. A line's text is file[from..to].
 pub enum Step {
     Whole {
         from: usize,
         to: usize,
         next: Cursor,
     },
-    Broken {
-        from: usize,
-        to: usize,
-    },
+    Broken,
+    Foul,
     Done,
-}
-
-// Whether none of the bytes from a place to another is a CR. The loop has no exit of its own, so that it can be compiled to take many bytes at a time.
-fn no_cr(file: &[u8], from: usize, to: usize) -> bool
-    requires { ⌜ (from ≤ to) × (to ≤ length (now file)) ⌝ }
-    ensures { λ r. ⌜ (r ≡ true → NoCR (now (file .entry)) from to) ⌝ }
-{
-    let mut good = true;
-    let mut i = from;
-    while i < to {
-        good = good & (file[i] != CR);
-        i += 1;
-    }
-    good
-}
-
-// Past whole blocks without a CR.
-fn past_blocks(file: &[u8], at: usize) -> usize
-    requires { ⌜ at ≤ length (now file) ⌝ }
-    ensures { λ r. ⌜ (at ≤ r) × (r ≤ length (now (file .entry))) × NoCR (now (file .entry)) at r ⌝ }
-{
-    let mut i = at;
-    while BLOCK <= file.len() - i {
-        if !no_cr(file, i, i + BLOCK) {
-            return i;
-        }
-        i += BLOCK;
-    }
-    i
 }
 
 // The place of the first CR from a place on, or the file's length.
@@ -70,7 +41,7 @@ pub fn cr_from(file: &[u8], at: usize) -> usize
     requires { ⌜ at ≤ length (now file) ⌝ }
     ensures { λ r. ⌜ CRFrom (now (file .entry)) at r ⌝ }
 {
-    let mut i = past_blocks(file, at);
+    let mut i = at;
     while i < file.len() {
         if file[i] == CR {
             return i;
@@ -78,6 +49,72 @@ pub fn cr_from(file: &[u8], at: usize) -> usize
         i += 1;
     }
     i
+}
+
+fn is_allowed(c: u8) -> bool
+    ensures { λ r. ⌜ r ≡ allowed c ⌝ }
+{
+    (32 <= c) & (c != 127)
+}
+
+// Whether each byte of a line is allowed. The loop has no exit of its own, so that it can be compiled to take many bytes at a time.
+pub fn all_allowed(line: &[u8]) -> bool
+    ensures { λ r. ⌜ r ≡ all allowed (now (line .entry)) ⌝ }
+{
+    let mut good = true;
+    let mut i = 0;
+    while i < line.len() {
+        good = good & is_allowed(line[i]);
+        i += 1;
+    }
+    good
+}
+
+// Past whole blocks of allowed bytes.
+fn past_blocks(file: &[u8], at: usize) -> usize
+    requires { ⌜ at ≤ length (now file) ⌝ }
+    ensures { λ r. ⌜ (at ≤ r) × (r ≤ length (now (file .entry))) × Clean (now (file .entry)) at r ⌝ }
+{
+    let mut i = at;
+    while BLOCK <= file.len() - i {
+        if !all_allowed(&file[i..i + BLOCK]) {
+            return i;
+        }
+        i += BLOCK;
+    }
+    i
+}
+
+// The first of some bytes that is not allowed, or their end.
+fn stop_within(file: &[u8], at: usize, to: usize) -> usize
+    requires { ⌜ (at ≤ to) × (to ≤ length (now file)) ⌝ }
+    ensures { λ r. ⌜ Stop (now (file .entry)) at to r ⌝ }
+{
+    let mut i = at;
+    while i < to {
+        if !is_allowed(file[i]) {
+            return i;
+        }
+        i += 1;
+    }
+    i
+}
+
+// The place of the first byte from a place on that is not allowed, or the file's length: after a few bytes block by block, since most lines are long and the
+// shortest are many.
+fn stop_from(file: &[u8], at: usize) -> usize
+    requires { ⌜ (at ≤ length (now file)) × (length (now file) ≤ mostFile) ⌝ }
+    ensures { λ r. ⌜ Stop (now (file .entry)) at (length (now (file .entry))) r ⌝ }
+{
+    if at + NEAR < file.len() {
+        let near = stop_within(file, at, at + NEAR);
+        if near < at + NEAR {
+            return near;
+        }
+        let far = past_blocks(file, near);
+        return stop_within(file, far, file.len());
+    }
+    stop_within(file, at, file.len())
 }
 
 impl Cursor {
@@ -96,9 +133,12 @@ impl Cursor {
         if file.len() <= at {
             return Step::Done;
         }
-        let to = cr_from(file, at);
+        let to = stop_from(file, at);
         if file.len() <= to {
-            return Step::Broken { from: at, to };
+            return Step::Broken;
+        }
+        if file[to] != CR {
+            return Step::Foul;
         }
         let after = to + 1;
         if file.len() <= after {
@@ -121,33 +161,4 @@ impl Cursor {
             next: Cursor { at: after },
         }
     }
-}
-
-fn is_allowed(c: u8) -> bool
-    ensures { λ r. ⌜ r ≡ allowed c ⌝ }
-{
-    (32 <= c) & (c != 127)
-}
-
-// Whether each byte of a line is allowed. The loop has no exit of its own, so that it can be compiled to take many bytes at a time.
-pub fn all_allowed(line: &[u8]) -> bool
-    ensures { λ r. ⌜ r ≡ all allowed (now (line .entry)) ⌝ }
-{
-    let mut good = true;
-    let mut i = 0;
-    while i < line.len() {
-        good = good & is_allowed(line[i]);
-        i += 1;
-    }
-    good
-}
-
-// The refusal of a last line that lacks its terminator.
-pub fn broken_fault(line: &[u8]) -> u32
-    ensures { λ r. ⌜ r ≡ brokenFault (now (line .entry)) ⌝ }
-{
-    if !all_allowed(line) {
-        return 3;
-    }
-    4
 }

@@ -14,11 +14,8 @@ Inv-loop file at i₀ i = (at ≤ i) × (i ≤ length file) × NoCR file at i
 abbrev μ-loop : tie.MeasureT-loop
 μ-loop file at i₀ i = length file - i
 
-past-blocks-requires : tie.Need-past-blocks-requires Inv-loop μ-loop
-past-blocks-requires c κs = search needs
-
 loop-holds : tie.Need-loop-holds Inv-loop μ-loop
-loop-holds c = c .past-blocks .ensures
+loop-holds c = (search needs, search needs, λ k l m e. omega arith)
 
 shared-slice-read-if1 : tie.Need-shared-slice-read-if1 Inv-loop μ-loop
 shared-slice-read-if1 c = search needs
@@ -48,7 +45,6 @@ cr-from-spec =
     (tie.spec
     Inv-loop
     μ-loop
-    past-blocks-requires
     loop-holds
     shared-slice-read-if1
     returns
