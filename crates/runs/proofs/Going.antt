@@ -15,7 +15,7 @@ use Rattle.law.proofs.Cut.{cut, endFor}
 use Rattle.join.specs.Run.{Way, on, stop, next, runAll}
 use Rattle.join.specs.Store.{Nine, State, state, stepLine}
 use Rattle.join.specs.Kept.{Long}
-use Rattle.lines.specs.Step.{BrokenAt, WholeAt, brokenFault}
+use Rattle.lines.specs.Step.{BrokenAt, FoulAt, WholeAt}
 use Rattle.checks.specs.Laws.{Indexed}
 use Rattle.steps.specs.declared.Counts.{Counts}
 use Rattle.steps.specs.declared.Stepped.{Stepped}
@@ -84,18 +84,21 @@ module _ {file : List ℕ} {b : Nine} {nothing : Counts} {t : Nine} {index : Lis
   back : ln + 1 - 1 ≡ ln
   back = omega arith
 
-  broken : (text : List ℕ) (v : Bool) → all allowed text ≡ v → (k : ℕ) → k ≡ cond v 4 3
-      → ran (record { fault = k; line = record { 0 = ln + 1 }; counts = c }) t ≡ runAll stepLine (record { text = text; end = no-end } ∷ []) ln (state ln (asCount c) t)
+  broken : (text : List ℕ) → all allowed text ≡ true
+      → ran (record { fault = 4; line = record { 0 = ln + 1 }; counts = c }) t ≡ runAll stepLine (record { text = text; end = no-end } ∷ []) ln (state ln (asCount c) t)
   unfolding runAll stepLine
-  broken text true e k q = rw (q, e, back) refl
-  broken text false e k q = rw (q, e, back) refl
+  broken text e = rw (e, back) refl
 
-  pub going-broken : {from to : ℕ} → BrokenAt file at from to → {k : ℕ} → k ≡ brokenFault (take (to - from) (drop from file))
-      → ran (record { fault = k; line = record { 0 = ln + 1 }; counts = c }) t ≡ whole
-  going-broken {from} {to} m {k} e =
-      broken (take (to - from) (drop from file)) (all allowed (take (to - from) (drop from file))) refl k e
-      ∙ ap (λ (l : List Line). runAll stepLine l ln (state ln (asCount c) t)) (sym (m .lines))
-      ∙ g .rest
+  pub going-broken : BrokenAt file at → ran (record { fault = 4; line = record { 0 = ln + 1 }; counts = c }) t ≡ whole
+  going-broken m = broken (m .text) (m .clean) ∙ ap (λ (l : List Line). runAll stepLine l ln (state ln (asCount c) t)) (sym (m .lines)) ∙ g .rest
+
+  foul : (l : Line) (others : List Line) → all allowed (l .text) ≡ false
+      → ran (record { fault = 3; line = record { 0 = ln + 1 }; counts = c }) t ≡ runAll stepLine (l ∷ others) ln (state ln (asCount c) t)
+  unfolding runAll stepLine
+  foul l others e = rw (e, back) refl
+
+  pub going-foul : FoulAt file at → ran (record { fault = 3; line = record { 0 = ln + 1 }; counts = c }) t ≡ whole
+  going-foul m = foul (m .line) (m .others) (m .foul) ∙ ap (λ (l : List Line). runAll stepLine l ln (state ln (asCount c) t)) (sym (m .lines)) ∙ g .rest
 
   -- a line with its terminator, and what was done with it
   module _ {from to after : ℕ} (m : WholeAt file at from to after) (r : Stepped) (x : Nine)
@@ -158,4 +161,4 @@ module _ {file : List ℕ} {b : Nine} {nothing : Counts} {t : Nine} {index : Lis
       (record { starts = refl; points = refl; ranks = refl; kept = refl; opponents = refl; colours = refl; results = refl; text = refl; lines = refl }) (g .indexed) (g .room)
     where
       did : (n : ℕ) (end : End) → ln + 1 ≡ n + 1 → went n (record { fault = 0; counts = c }) t ≡ stepLine (lineOf (take (to - from) (drop from file)) end) (state n (asCount c) t)
-      did n end _ = passed-on (take (to - from) (drop from file)) end n (asCount c) t s
+      did n end _ = passed-on (take (to - from) (drop from file)) end n (asCount c) t (m .clean) s

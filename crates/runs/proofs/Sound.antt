@@ -1,6 +1,6 @@
--- A line that has its terminator: 3, 5, or what its kind does. Assumes nothing.
+-- A line of allowed bytes that has its terminator: 5, or what its kind does. Assumes nothing.
 use mathlib.Core.Path.{_≡_, refl, sym, ap, _∙_}
-use mathlib.Core.Bool.{true, false, not}
+use mathlib.Core.Bool.{true}
 use mathlib.Core.List.{List}
 use Prim.Native.Nat.{ℕ, _+_, _≤_, _<_}
 use lib.ListN.{length}
@@ -18,10 +18,6 @@ unfolding kindOf
 passed-kind text e = rw e refl
 
 module _ (text : List ℕ) (end : End) (s : State) where
-  pub bad-byte : all allowed text ≡ false → stop 3 s ≡ stepLine (lineOf text end) s
-  unfolding stepLine
-  bad-byte e = rw e refl
-
   module _ (e : all allowed text ≡ true) where
     pub too-long : mostLine < length text → stop 5 s ≡ stepLine (lineOf text end) s
     unfolding stepLine
@@ -31,6 +27,6 @@ module _ (text : List ℕ) (end : End) (s : State) where
     unfolding stepLine
     by-kind k l q = rw (e, le-ltb mostLine (length text) l, q) refl
 
-pub passed-on : (text : List ℕ) (end : End) (n : ℕ) (c : Count) (t : Nine) → Skipped text → on (state (n + 1) c t) ≡ stepLine (lineOf text end) (state n c t)
+pub passed-on : (text : List ℕ) (end : End) (n : ℕ) (c : Count) (t : Nine) → all allowed text ≡ true → Skipped text → on (state (n + 1) c t) ≡ stepLine (lineOf text end) (state n c t)
 unfolding stepRow
-passed-on text end n c t s = by-kind text end (state n c t) (s .clean) passed-over (s .short) (s .passed)
+passed-on text end n c t e s = by-kind text end (state n c t) e passed-over (s .short) (s .passed)

@@ -1,14 +1,13 @@
 -- A line of the file that has its terminator, and what the run over the lines leaves.
 use mathlib.Core.Path.{_≡_}
-use mathlib.Core.Bool.{cond, true}
+use mathlib.Core.Bool.{cond}
 use mathlib.Core.Option.{some}
 use mathlib.Core.List.{List}
 use Prim.Native.Nat.{ℕ, _-_, _≤_}
 use lib.Dec.{eqb}
 use lib.ListN.{length}
-use Rattle.kit.specs.Lists.{all}
 use Rattle.law.specs.Sizes.{mostLine}
-use Rattle.law.specs.Lines.{allowed, Line, End}
+use Rattle.law.specs.Lines.{Line, End}
 use Rattle.law.specs.Items.{kindOf, passed-over}
 use Rattle.join.specs.Run.{Way, on, stop}
 use Rattle.join.specs.Store.{Nine, State, state}
@@ -18,9 +17,8 @@ use Rattle.runs.specs.declared.Ran.{Ran}
 abbrev pub lineOf : List ℕ → End → Line
 lineOf text end = record { text = text; end = some end }
 
--- a line that is passed over, and that no refusal is due for
+-- a line that is passed over, and is not too long
 pub record Skipped (text : List ℕ) : Type 0 where
-  pub clean : all allowed text ≡ true
   pub short : length text ≤ mostLine
   pub passed : kindOf text ≡ passed-over
 

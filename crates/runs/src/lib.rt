@@ -4,7 +4,8 @@ ghost use mathlib.Core.Bool.{true, false};
 ghost use Prim.Native.Nat.{ℕ, _+_, _≤_};
 ghost use lib.ListN.{length};
 ghost use Rattle.law.specs.Sizes.{mostFile};
-ghost use Rattle.law.specs.Lines.{End};
+ghost use Rattle.kit.specs.Lists.{all};
+ghost use Rattle.law.specs.Lines.{allowed, End};
 ghost use Rattle.law.proofs.Cut.{cut};
 ghost use Rattle.join.specs.Run.{runAll};
 ghost use Rattle.join.specs.Store.{state, stepLine};
@@ -24,7 +25,7 @@ use types::LineNumber;
 // The longest line.
 const MOST_LINE: usize = 512;
 
-// One line that has its terminator.
+// One line of allowed bytes that has its terminator.
 fn step(
     line: &[u8],
     number: LineNumber,
@@ -42,15 +43,9 @@ fn step(
 ) -> Stepped
     requires { ⌜ Long (lent starts points ranks kept opponents colours results text lines) ⌝ }
     requires { ⌜ Indexed (now starts) (c .players) (now index) ⌝ }
-    requires { ⌜ Small c × (1 ≤ number .0) ⌝ }
+    requires { ⌜ Small c × (1 ≤ number .0) × (all allowed (now line) ≡ true) ⌝ }
     ensures { λ r. ⌜ ((ln : ℕ) (end : End) → number .0 ≡ ln + 1 → went ln r (after starts points ranks kept opponents colours results text lines) ≡ stepLine (lineOf (now (line .entry)) end) (state ln (asCount c) (before starts points ranks kept opponents colours results text lines))) × Indexed (now (starts .exit)) (r .counts .players) (now (index .exit)) × Small (r .counts) ⌝ }
 {
-    if !lines::all_allowed(line) {
-        return Stepped {
-            fault: 3,
-            counts: c,
-        };
-    }
     if MOST_LINE < line.len() {
         return Stepped {
             fault: 5,
@@ -95,17 +90,14 @@ pub struct Ran {
     pub counts: Counts,
 }
 
-// Whether a line that has its terminator is passed over. This alone is asked of most lines that no record stands in, so that a file of them costs little.
+// Whether a line is passed over and not too long. This is asked first, so that a file of blank lines and comments costs little.
 fn is_skipped(line: &[u8]) -> bool
     ensures { λ r. ⌜ (r ≡ true → Skipped (now (line .entry))) ⌝ }
 {
     if !records::is_passed(line) {
         return false;
     }
-    if MOST_LINE < line.len() {
-        return false;
-    }
-    lines::all_allowed(line)
+    line.len() <= MOST_LINE
 }
 
 // The lines of a file, one after the other.
@@ -141,10 +133,16 @@ pub fn run(
                     counts: c,
                 };
             }
-            Step::Broken { from, to } => {
-                let line = &file[from..to];
+            Step::Broken => {
                 return Ran {
-                    fault: lines::broken_fault(line),
+                    fault: 4,
+                    line: LineNumber(ln + 1),
+                    counts: c,
+                };
+            }
+            Step::Foul => {
+                return Ran {
+                    fault: 3,
                     line: LineNumber(ln + 1),
                     counts: c,
                 };

@@ -54,7 +54,7 @@ loop-again c =
       search needs,
       search needs,
       clean-join (now (a .file)) (a .at) (l .i) (l .i + 32) (l .inv .2)
-      (clean-slice (now (a .file)) (l .i) (l .i + 32) (omega arith) (search needs) (sym (c .before .all-allowed .ensures) ∙ not-false _ (c .if1 .left))),
+          (clean-slice (now (a .file)) (l .i) (l .i + 32) (omega arith) (search needs) (sym (c .before .all-allowed .ensures) ∙ not-false _ (c .if1 .left))),
     )
 
 returns-2 : tie.Need-returns-2 Inv-loop μ-loop

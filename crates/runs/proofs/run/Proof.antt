@@ -4,9 +4,9 @@ use Prim.Native.Nat.{_-_}
 use native.Mathlib.Omega.{arith}
 use lib.ListN.{length}
 use denote.Ref.{now}
-use Rattle.lines.proofs.Told.{told-done, told-broken, told-whole}
+use Rattle.lines.proofs.Told.{told-done, told-broken, told-foul, told-whole}
 use Rattle.tables.specs.Lent.{nine}
-use Rattle.runs.proofs.Going.{Going, long-as, going-none, going-done, going-broken, going-stop, going-next, going-skip}
+use Rattle.runs.proofs.Going.{Going, long-as, going-none, going-done, going-broken, going-foul, going-stop, going-next, going-skip}
 use borrow.Author.Needs.{needs}
 use Rattle.runs.proofs.run.Statement.{statement}
 use Rattle.runs.proofs.run.Tie as tie
@@ -75,92 +75,104 @@ returns c =
     let l = c .before .before .before .loop in
     (going-done (l .inv) (told-done _ _ (c .before .before .next-line .ensures) (c .enum-told .given .1)), l .inv .indexed, l .inv .room)
 
+enum-told-2 : tie.Need-enum-told-2 Inv-loop μ-loop
+enum-told-2 c = search needs
+
+add-t24 : tie.Need-add-t24 Inv-loop μ-loop
+add-t24 c =
+    let i = c .before .before .before .loop .inv in
+    let f = c .before .before .before .before .before .before .before .before .before .before .before .before .before .before .before .pre .0 in
+    omega (arith, i .within, i .small, f)
+
+same-length-10 : tie.Need-same-length-10 Inv-loop μ-loop
+same-length-10 c = c .before .before .before .loop .inv .alike .starts
+
+same-length-11 : tie.Need-same-length-11 Inv-loop μ-loop
+same-length-11 c = c .before .before .before .loop .inv .alike .points
+
+same-length-12 : tie.Need-same-length-12 Inv-loop μ-loop
+same-length-12 c = c .before .before .before .loop .inv .alike .ranks
+
+same-length-13 : tie.Need-same-length-13 Inv-loop μ-loop
+same-length-13 c = c .before .before .before .loop .inv .alike .kept
+
+same-length-14 : tie.Need-same-length-14 Inv-loop μ-loop
+same-length-14 c = c .before .before .before .loop .inv .alike .opponents
+
+same-length-15 : tie.Need-same-length-15 Inv-loop μ-loop
+same-length-15 c = c .before .before .before .loop .inv .alike .colours
+
+same-length-16 : tie.Need-same-length-16 Inv-loop μ-loop
+same-length-16 c = c .before .before .before .loop .inv .alike .results
+
+same-length-17 : tie.Need-same-length-17 Inv-loop μ-loop
+same-length-17 c = c .before .before .before .loop .inv .alike .text
+
+same-length-18 : tie.Need-same-length-18 Inv-loop μ-loop
+same-length-18 c = c .before .before .before .loop .inv .alike .lines
+
+returns-2 : tie.Need-returns-2 Inv-loop μ-loop
+returns-2 c =
+    let l = c .before .before .before .loop in
+    (going-broken (l .inv) (told-broken _ _ (c .before .before .next-line .ensures) (c .enum-told2 .given .1)), l .inv .indexed, l .inv .room)
+
+enum-told-3 : tie.Need-enum-told-3 Inv-loop μ-loop
+enum-told-3 c = search needs
+
+add-t26 : tie.Need-add-t26 Inv-loop μ-loop
+add-t26 c =
+    let i = c .before .before .before .loop .inv in
+    let f = c .before .before .before .before .before .before .before .before .before .before .before .before .before .before .before .pre .0 in
+    omega (arith, i .within, i .small, f)
+
+same-length-19 : tie.Need-same-length-19 Inv-loop μ-loop
+same-length-19 c = c .before .before .before .loop .inv .alike .starts
+
+same-length-20 : tie.Need-same-length-20 Inv-loop μ-loop
+same-length-20 c = c .before .before .before .loop .inv .alike .points
+
+same-length-21 : tie.Need-same-length-21 Inv-loop μ-loop
+same-length-21 c = c .before .before .before .loop .inv .alike .ranks
+
+same-length-22 : tie.Need-same-length-22 Inv-loop μ-loop
+same-length-22 c = c .before .before .before .loop .inv .alike .kept
+
+same-length-23 : tie.Need-same-length-23 Inv-loop μ-loop
+same-length-23 c = c .before .before .before .loop .inv .alike .opponents
+
+same-length-24 : tie.Need-same-length-24 Inv-loop μ-loop
+same-length-24 c = c .before .before .before .loop .inv .alike .colours
+
+same-length-25 : tie.Need-same-length-25 Inv-loop μ-loop
+same-length-25 c = c .before .before .before .loop .inv .alike .results
+
+same-length-26 : tie.Need-same-length-26 Inv-loop μ-loop
+same-length-26 c = c .before .before .before .loop .inv .alike .text
+
+same-length-27 : tie.Need-same-length-27 Inv-loop μ-loop
+same-length-27 c = c .before .before .before .loop .inv .alike .lines
+
+returns-3 : tie.Need-returns-3 Inv-loop μ-loop
+returns-3 c =
+    let l = c .before .before .before .loop in
+    (going-foul (l .inv) (told-foul _ _ (c .before .before .next-line .ensures) (c .enum-told3 .given .1)), l .inv .indexed, l .inv .room)
+
 enum-known-from : tie.Need-enum-known-from Inv-loop μ-loop
 enum-known-from c = search needs
 
 sub-line : tie.Need-sub-line Inv-loop μ-loop
 sub-line c =
-    let m = told-broken _ _ (c .before .before .before .next-line .ensures) (c .before .from .given .1) in
+    let m = told-whole _ _ (c .before .before .before .next-line .ensures) (c .before .from .given .1) in
     search needs
 
 part-line-start : tie.Need-part-line-start Inv-loop μ-loop
 part-line-start c =
-    let m = told-broken _ _ (c .before .before .before .next-line .ensures) (c .before .from .given .1) in
+    let m = told-whole _ _ (c .before .before .before .next-line .ensures) (c .before .from .given .1) in
     search needs
 
 part-line-end : tie.Need-part-line-end Inv-loop μ-loop
 part-line-end c =
-    let m = told-broken _ _ (c .before .before .before .next-line .ensures) (c .before .from .given .1) in
-    search needs
-
-broken-fault-requires : tie.Need-broken-fault-requires Inv-loop μ-loop
-broken-fault-requires c κs = search needs
-
-add-t31 : tie.Need-add-t31 Inv-loop μ-loop
-add-t31 c =
-    let l = c .before .before .before .before .before .before .loop in
-    let i = l .inv in
-    let f = c .before .before .before .before .before .before .before .before .before .before .before .before .before .before .before .before .before .before .pre .0 in
-    search needs
-
-same-length-10 : tie.Need-same-length-10 Inv-loop μ-loop
-same-length-10 c =
-    c .before .before .before .before .before .before .loop .inv .alike .starts
-
-same-length-11 : tie.Need-same-length-11 Inv-loop μ-loop
-same-length-11 c =
-    c .before .before .before .before .before .before .loop .inv .alike .points
-
-same-length-12 : tie.Need-same-length-12 Inv-loop μ-loop
-same-length-12 c =
-    c .before .before .before .before .before .before .loop .inv .alike .ranks
-
-same-length-13 : tie.Need-same-length-13 Inv-loop μ-loop
-same-length-13 c =
-    c .before .before .before .before .before .before .loop .inv .alike .kept
-
-same-length-14 : tie.Need-same-length-14 Inv-loop μ-loop
-same-length-14 c =
-    c .before .before .before .before .before .before .loop .inv .alike .opponents
-
-same-length-15 : tie.Need-same-length-15 Inv-loop μ-loop
-same-length-15 c =
-    c .before .before .before .before .before .before .loop .inv .alike .colours
-
-same-length-16 : tie.Need-same-length-16 Inv-loop μ-loop
-same-length-16 c =
-    c .before .before .before .before .before .before .loop .inv .alike .results
-
-same-length-17 : tie.Need-same-length-17 Inv-loop μ-loop
-same-length-17 c =
-    c .before .before .before .before .before .before .loop .inv .alike .text
-
-same-length-18 : tie.Need-same-length-18 Inv-loop μ-loop
-same-length-18 c =
-    c .before .before .before .before .before .before .loop .inv .alike .lines
-
-returns-2 : tie.Need-returns-2 Inv-loop μ-loop
-returns-2 c =
-    let l = c .before .before .before .before .before .before .loop in
-    let m = told-broken _ _ (c .before .before .before .before .before .next-line .ensures) (c .before .before .before .from .given .1) in
-    (going-broken (l .inv) m (c .broken-fault .ensures), l .inv .indexed, l .inv .room)
-
-enum-known-from-2 : tie.Need-enum-known-from-2 Inv-loop μ-loop
-enum-known-from-2 c = search needs
-
-sub-line-2 : tie.Need-sub-line-2 Inv-loop μ-loop
-sub-line-2 c =
-    let m = told-whole _ _ (c .before .before .before .next-line .ensures) (c .before .from2 .given .1) in
-    search needs
-
-part-line-start-2 : tie.Need-part-line-start-2 Inv-loop μ-loop
-part-line-start-2 c =
-    let m = told-whole _ _ (c .before .before .before .next-line .ensures) (c .before .from2 .given .1) in
-    search needs
-
-part-line-end-2 : tie.Need-part-line-end-2 Inv-loop μ-loop
-part-line-end-2 c =
-    let m = told-whole _ _ (c .before .before .before .next-line .ensures) (c .before .from2 .given .1) in
+    let m = told-whole _ _ (c .before .before .before .next-line .ensures) (c .before .from .given .1) in
     search needs
 
 is-skipped-requires : tie.Need-is-skipped-requires Inv-loop μ-loop
@@ -175,7 +187,7 @@ add-ln c =
 loop-less : tie.Need-loop-less Inv-loop μ-loop
 loop-less c =
     let l = c .before .before .before .before .before .before .before .loop in
-    let m = told-whole _ _ (c .before .before .before .before .before .before .next-line .ensures) (c .before .before .before .before .from2 .given .1) in
+    let m = told-whole _ _ (c .before .before .before .before .before .before .next-line .ensures) (c .before .before .before .before .from .given .1) in
     let p = m .past in
     let q = m .forward in
     let w = m .within in
@@ -184,11 +196,11 @@ loop-less c =
 loop-again : tie.Need-loop-again Inv-loop μ-loop
 loop-again c =
     let l = c .before .before .before .before .before .before .before .loop in
-    let m = told-whole _ _ (c .before .before .before .before .before .before .next-line .ensures) (c .before .before .before .before .from2 .given .1) in
+    let m = told-whole _ _ (c .before .before .before .before .before .before .next-line .ensures) (c .before .before .before .before .from .given .1) in
     going-skip (l .inv) m (c .before .is-skipped .ensures (c .if1 .taken))
 
-add-t37 : tie.Need-add-t37 Inv-loop μ-loop
-add-t37 c =
+add-t32 : tie.Need-add-t32 Inv-loop μ-loop
+add-t32 c =
     let i = c .before .before .before .before .before .before .before .loop .inv in
     let f = c .before .before .before .before .before .before .before .before .before .before .before .before .before .before .before .before .before .before .before .pre .0 in
     search needs
@@ -197,64 +209,65 @@ step-requires : tie.Need-step-requires Inv-loop μ-loop
 step-requires c κs =
     let i = c .before .before .before .before .before .before .before .before .before .before .before .before .before .before .before .before .before .loop .inv in
     let s = c .before .before .before .before .before .before .before .before .before .before .before .before .before .before .before .before .before .before .before .before .before .before .before .before .before .before .before .before .before in
-    (long-as (i .alike) (s .pre .1 .0), (i .indexed, (i .room, omega arith)))
+    let m = told-whole _ _ (c .before .before .before .before .before .before .before .before .before .before .before .before .before .before .before .before .next-line .ensures) (c .before .before .before .before .before .before .before .before .before .before .before .before .before .before .from .given .1) in
+    (long-as (i .alike) (s .pre .1 .0), (i .indexed, (i .room, omega arith, m .clean)))
 
-add-t59 : tie.Need-add-t59 Inv-loop μ-loop
-add-t59 c =
+add-t54 : tie.Need-add-t54 Inv-loop μ-loop
+add-t54 c =
     let i = c .before .before .before .before .before .before .before .before .before .before .before .before .before .before .before .before .before .before .before .before .before .before .before .before .before .before .before .before .before .before .before .before .before .before .before .before .before .before .before .loop .inv in
     let f = c .before .before .before .before .before .before .before .before .before .before .before .before .before .before .before .before .before .before .before .before .before .before .before .before .before .before .before .before .before .before .before .before .before .before .before .before .before .before .before .before .before .before .before .before .before .before .before .before .before .before .before .pre .0 in
     omega (arith, i .within, i .small, f)
 
-same-length-19 : tie.Need-same-length-19 Inv-loop μ-loop
-same-length-19 c =
+same-length-28 : tie.Need-same-length-28 Inv-loop μ-loop
+same-length-28 c =
     let r = c .before .before .before .before .before .before .before .before .before .before .before .before .before .before .before .before .before .before .before .before .before .step in
     r .kept .1 .1 .1 .1 .0 ∙ c .before .before .before .before .before .before .before .before .before .before .before .before .before .before .before .before .before .before .before .before .before .before .before .before .before .before .before .before .before .before .before .before .before .before .before .before .before .before .before .loop .inv .alike .starts
 
-same-length-20 : tie.Need-same-length-20 Inv-loop μ-loop
-same-length-20 c =
+same-length-29 : tie.Need-same-length-29 Inv-loop μ-loop
+same-length-29 c =
     let r = c .before .before .before .before .before .before .before .before .before .before .before .before .before .before .before .before .before .before .before .before .before .step in
     r .kept .1 .1 .1 .1 .1 .0 ∙ c .before .before .before .before .before .before .before .before .before .before .before .before .before .before .before .before .before .before .before .before .before .before .before .before .before .before .before .before .before .before .before .before .before .before .before .before .before .before .before .loop .inv .alike .points
 
-same-length-21 : tie.Need-same-length-21 Inv-loop μ-loop
-same-length-21 c =
+same-length-30 : tie.Need-same-length-30 Inv-loop μ-loop
+same-length-30 c =
     let r = c .before .before .before .before .before .before .before .before .before .before .before .before .before .before .before .before .before .before .before .before .before .step in
     r .kept .1 .1 .1 .1 .1 .1 .0 ∙ c .before .before .before .before .before .before .before .before .before .before .before .before .before .before .before .before .before .before .before .before .before .before .before .before .before .before .before .before .before .before .before .before .before .before .before .before .before .before .before .loop .inv .alike .ranks
 
-same-length-22 : tie.Need-same-length-22 Inv-loop μ-loop
-same-length-22 c =
+same-length-31 : tie.Need-same-length-31 Inv-loop μ-loop
+same-length-31 c =
     let r = c .before .before .before .before .before .before .before .before .before .before .before .before .before .before .before .before .before .before .before .before .before .step in
     r .kept .1 .1 .1 .1 .1 .1 .1 .0 ∙ c .before .before .before .before .before .before .before .before .before .before .before .before .before .before .before .before .before .before .before .before .before .before .before .before .before .before .before .before .before .before .before .before .before .before .before .before .before .before .before .loop .inv .alike .kept
 
-same-length-23 : tie.Need-same-length-23 Inv-loop μ-loop
-same-length-23 c =
+same-length-32 : tie.Need-same-length-32 Inv-loop μ-loop
+same-length-32 c =
     let r = c .before .before .before .before .before .before .before .before .before .before .before .before .before .before .before .before .before .before .before .before .before .step in
     r .kept .1 .1 .1 .1 .1 .1 .1 .1 .0 ∙ c .before .before .before .before .before .before .before .before .before .before .before .before .before .before .before .before .before .before .before .before .before .before .before .before .before .before .before .before .before .before .before .before .before .before .before .before .before .before .before .loop .inv .alike .opponents
 
-same-length-24 : tie.Need-same-length-24 Inv-loop μ-loop
-same-length-24 c =
+same-length-33 : tie.Need-same-length-33 Inv-loop μ-loop
+same-length-33 c =
     let r = c .before .before .before .before .before .before .before .before .before .before .before .before .before .before .before .before .before .before .before .before .before .step in
     r .kept .1 .1 .1 .1 .1 .1 .1 .1 .1 .0 ∙ c .before .before .before .before .before .before .before .before .before .before .before .before .before .before .before .before .before .before .before .before .before .before .before .before .before .before .before .before .before .before .before .before .before .before .before .before .before .before .before .loop .inv .alike .colours
 
-same-length-25 : tie.Need-same-length-25 Inv-loop μ-loop
-same-length-25 c =
+same-length-34 : tie.Need-same-length-34 Inv-loop μ-loop
+same-length-34 c =
     let r = c .before .before .before .before .before .before .before .before .before .before .before .before .before .before .before .before .before .before .before .before .before .step in
     r .kept .1 .1 .1 .1 .1 .1 .1 .1 .1 .1 .0 ∙ c .before .before .before .before .before .before .before .before .before .before .before .before .before .before .before .before .before .before .before .before .before .before .before .before .before .before .before .before .before .before .before .before .before .before .before .before .before .before .before .loop .inv .alike .results
 
-same-length-26 : tie.Need-same-length-26 Inv-loop μ-loop
-same-length-26 c =
+same-length-35 : tie.Need-same-length-35 Inv-loop μ-loop
+same-length-35 c =
     let r = c .before .before .before .before .before .before .before .before .before .before .before .before .before .before .before .before .before .before .before .before .before .step in
     r .kept .1 .1 .1 .1 .1 .1 .1 .1 .1 .1 .1 .0 ∙ c .before .before .before .before .before .before .before .before .before .before .before .before .before .before .before .before .before .before .before .before .before .before .before .before .before .before .before .before .before .before .before .before .before .before .before .before .before .before .before .loop .inv .alike .text
 
-same-length-27 : tie.Need-same-length-27 Inv-loop μ-loop
-same-length-27 c =
+same-length-36 : tie.Need-same-length-36 Inv-loop μ-loop
+same-length-36 c =
     let r = c .before .before .before .before .before .before .before .before .before .before .before .before .before .before .before .before .before .before .before .before .before .step in
     r .kept .1 .1 .1 .1 .1 .1 .1 .1 .1 .1 .1 .1 .0 ∙ c .before .before .before .before .before .before .before .before .before .before .before .before .before .before .before .before .before .before .before .before .before .before .before .before .before .before .before .before .before .before .before .before .before .before .before .before .before .before .before .loop .inv .alike .lines
 
-returns-3 : tie.Need-returns-3 Inv-loop μ-loop
-returns-3 c =
+returns-4 : tie.Need-returns-4 Inv-loop μ-loop
+returns-4 c =
     let s = c .before .before .before .before .before .before .before .before .before .before .before .before .before .before .before .before .before .before .before .before .before .before .before .before .before .before .before .before .before .before .before .before .before .before .before .before .before .before .before .before .before .before .before .before .before .before .before .before .before .before .before in
     let l = c .before .before .before .before .before .before .before .before .before .before .before .before .before .before .before .before .before .before .before .before .before .before .before .before .before .before .before .before .before .before .before .before .before .before .before .before .before .before .before .loop in
-    let m = told-whole _ _ (c .before .before .before .before .before .before .before .before .before .before .before .before .before .before .before .before .before .before .before .before .before .before .before .before .before .before .before .before .before .before .before .before .before .before .before .before .before .before .next-line .ensures) (c .before .before .before .before .before .before .before .before .before .before .before .before .before .before .before .before .before .before .before .before .before .before .before .before .before .before .before .before .before .before .before .before .before .before .before .before .from2 .given .1) in
+    let m = told-whole _ _ (c .before .before .before .before .before .before .before .before .before .before .before .before .before .before .before .before .before .before .before .before .before .before .before .before .before .before .before .before .before .before .before .before .before .before .before .before .before .before .next-line .ensures) (c .before .before .before .before .before .before .before .before .before .before .before .before .before .before .before .before .before .before .before .before .before .before .before .before .before .before .before .before .before .before .before .before .before .before .before .before .from .given .1) in
     let r = c .before .before .before .before .before .before .before .before .before .before .before .before .before .before .before .before .before .before .before .before .before .step in
     (going-stop (l .inv) m (r .result) _ (r .ensures .0) (c .if2 .taken), r .ensures .1, r .ensures .2)
 
@@ -268,7 +281,7 @@ loop-less-2 : tie.Need-loop-less-2 Inv-loop μ-loop
 loop-less-2 c =
     let s = c .before .before .before .before .before .before .before .before .before .before .before .before .before .before .before .before .before .before .before .before .before .before .before .before .before .before .before .before .before .before .before .before .before .before .before .before .before .before .before .before .before .before .before .before .before .before .before .before .before .before .before in
     let l = c .before .before .before .before .before .before .before .before .before .before .before .before .before .before .before .before .before .before .before .before .before .before .before .before .before .before .before .before .before .before .before .before .before .before .before .before .before .before .before .loop in
-    let m = told-whole _ _ (c .before .before .before .before .before .before .before .before .before .before .before .before .before .before .before .before .before .before .before .before .before .before .before .before .before .before .before .before .before .before .before .before .before .before .before .before .before .before .next-line .ensures) (c .before .before .before .before .before .before .before .before .before .before .before .before .before .before .before .before .before .before .before .before .before .before .before .before .before .before .before .before .before .before .before .before .before .before .before .before .from2 .given .1) in
+    let m = told-whole _ _ (c .before .before .before .before .before .before .before .before .before .before .before .before .before .before .before .before .before .before .before .before .before .before .before .before .before .before .before .before .before .before .before .before .before .before .before .before .before .before .next-line .ensures) (c .before .before .before .before .before .before .before .before .before .before .before .before .before .before .before .before .before .before .before .before .before .before .before .before .before .before .before .before .before .before .before .before .before .before .before .before .from .given .1) in
     let r = c .before .before .before .before .before .before .before .before .before .before .before .before .before .before .before .before .before .before .before .before .before .step in
     let p = m .past in
     let q = m .forward in
@@ -279,7 +292,7 @@ loop-again-2 : tie.Need-loop-again-2 Inv-loop μ-loop
 loop-again-2 c =
     let s = c .before .before .before .before .before .before .before .before .before .before .before .before .before .before .before .before .before .before .before .before .before .before .before .before .before .before .before .before .before .before .before .before .before .before .before .before .before .before .before .before .before .before .before .before .before .before .before .before .before .before .before in
     let l = c .before .before .before .before .before .before .before .before .before .before .before .before .before .before .before .before .before .before .before .before .before .before .before .before .before .before .before .before .before .before .before .before .before .before .before .before .before .before .before .loop in
-    let m = told-whole _ _ (c .before .before .before .before .before .before .before .before .before .before .before .before .before .before .before .before .before .before .before .before .before .before .before .before .before .before .before .before .before .before .before .before .before .before .before .before .before .before .next-line .ensures) (c .before .before .before .before .before .before .before .before .before .before .before .before .before .before .before .before .before .before .before .before .before .before .before .before .before .before .before .before .before .before .before .before .before .before .before .before .from2 .given .1) in
+    let m = told-whole _ _ (c .before .before .before .before .before .before .before .before .before .before .before .before .before .before .before .before .before .before .before .before .before .before .before .before .before .before .before .before .before .before .before .before .before .before .before .before .before .before .next-line .ensures) (c .before .before .before .before .before .before .before .before .before .before .before .before .before .before .before .before .before .before .before .before .before .before .before .before .before .before .before .before .before .before .before .before .before .before .before .before .from .given .1) in
     let r = c .before .before .before .before .before .before .before .before .before .before .before .before .before .before .before .before .before .before .before .before .before .step in
     going-next (l .inv) m (r .result) _ (r .ensures .0) (c .if2 .left) (record { starts = r .kept .1 .1 .1 .1 .0; points = r .kept .1 .1 .1 .1 .1 .0; ranks = r .kept .1 .1 .1 .1 .1 .1 .0; kept = r .kept .1 .1 .1 .1 .1 .1 .1 .0; opponents = r .kept .1 .1 .1 .1 .1 .1 .1 .1 .0; colours = r .kept .1 .1 .1 .1 .1 .1 .1 .1 .1 .0; results = r .kept .1 .1 .1 .1 .1 .1 .1 .1 .1 .1 .0; text = r .kept .1 .1 .1 .1 .1 .1 .1 .1 .1 .1 .1 .0; lines = r .kept .1 .1 .1 .1 .1 .1 .1 .1 .1 .1 .1 .1 .0 }) (r .ensures .1) (r .ensures .2)
 
@@ -303,12 +316,8 @@ run-spec =
     same-length-8
     same-length-9
     returns
-    enum-known-from
-    sub-line
-    part-line-start
-    part-line-end
-    broken-fault-requires
-    add-t31
+    enum-told-2
+    add-t24
     same-length-10
     same-length-11
     same-length-12
@@ -319,17 +328,8 @@ run-spec =
     same-length-17
     same-length-18
     returns-2
-    enum-known-from-2
-    sub-line-2
-    part-line-start-2
-    part-line-end-2
-    is-skipped-requires
-    add-ln
-    loop-less
-    loop-again
-    add-t37
-    step-requires
-    add-t59
+    enum-told-3
+    add-t26
     same-length-19
     same-length-20
     same-length-21
@@ -340,6 +340,27 @@ run-spec =
     same-length-26
     same-length-27
     returns-3
+    enum-known-from
+    sub-line
+    part-line-start
+    part-line-end
+    is-skipped-requires
+    add-ln
+    loop-less
+    loop-again
+    add-t32
+    step-requires
+    add-t54
+    same-length-28
+    same-length-29
+    same-length-30
+    same-length-31
+    same-length-32
+    same-length-33
+    same-length-34
+    same-length-35
+    same-length-36
+    returns-4
     add-ln-2
     loop-less-2
     loop-again-2)

@@ -9,30 +9,19 @@ use Rattle.records.specs.Records.{kindSays}
 use Rattle.records.proofs.Told.{kind-told}
 use Rattle.tables.specs.Lent.{nine}
 use Rattle.steps.specs.Counts.{asCount}
-use Rattle.runs.proofs.Sound.{bad-byte, too-long, by-kind}
+use Rattle.runs.proofs.Sound.{too-long, by-kind}
 use Rattle.runs.proofs.Room.{stepped, still-indexed, less}
 use borrow.Author.Needs.{needs}
 use Rattle.runs.proofs.step.Statement.{statement}
 use Rattle.runs.proofs.step.Tie as tie
 
-all-allowed-requires : tie.Need-all-allowed-requires
-all-allowed-requires c κs = search needs
-
 returns : tie.Need-returns
 returns c =
-    let s = c .before .before .before .before .before .before .before .before .before .before .before .before in
+    let s = c .before .before .before .before .before .before .before .before .before .before .before in
     let a = s .args in
     let row = a .line .now in
     let t = (nine (now (a .starts)) (now (a .points)) (now (a .ranks)) (now (a .kept)) (now (a .opponents)) (now (a .colours)) (now (a .results)) (now (a .text)) (now (a .lines))) in
-    (λ ln end e. bad-byte row end (state ln (asCount (a .c)) t) (sym (c .before .all-allowed .ensures) ∙ not-true _ (c .if1 .taken)), s .pre .1 .0, s .pre .1 .1 .0)
-
-returns-2 : tie.Need-returns-2
-returns-2 c =
-    let s = c .before .before .before .before .before .before .before .before .before .before .before .before .before in
-    let a = s .args in
-    let row = a .line .now in
-    let t = (nine (now (a .starts)) (now (a .points)) (now (a .ranks)) (now (a .kept)) (now (a .opponents)) (now (a .colours)) (now (a .results)) (now (a .text)) (now (a .lines))) in
-    (λ ln end e. too-long row end (state ln (asCount (a .c)) t) (sym (c .before .before .all-allowed .ensures) ∙ not-false _ (c .before .if1 .left)) (c .if2 .taken), s .pre .1 .0, s .pre .1 .1 .0)
+    (λ ln end e. too-long row end (state ln (asCount (a .c)) t) (s .pre .1 .1 .2) (c .if1 .taken), s .pre .1 .0, s .pre .1 .1 .0)
 
 kind-of-requires : tie.Need-kind-of-requires
 kind-of-requires c κs = search needs
@@ -45,9 +34,9 @@ enum-told-2 c = search needs
 
 step-text-requires : tie.Need-step-text-requires
 step-text-requires c κs =
-    let s = c .before .before .before .before .before .before .before .before .before .before .before .before .before .before .before .before .before in
+    let s = c .before .before .before .before .before .before .before .before .before .before .before .before .before .before .before in
     let row = s .args .line .now in
-    (kind-told (kindOf row) kept-text (sym (c .before .before .before .kind-of .ensures) ∙ ap kindSays (c .before .enum-told2 .given .1)), c .before .before .before .before .if2 .left, s .pre .1 .1 .0 .text, s .pre .0 .text)
+    (kind-told (kindOf row) kept-text (sym (c .before .before .before .kind-of .ensures) ∙ ap kindSays (c .before .enum-told2 .given .1)), c .before .before .before .before .if1 .left, s .pre .1 .1 .0 .text, s .pre .0 .text)
 
 enum-told-3 : tie.Need-enum-told-3
 enum-told-3 c = search needs
@@ -78,87 +67,87 @@ enum-told-7 c = search needs
 
 step-player-requires : tie.Need-step-player-requires
 step-player-requires c κs =
-    let s = c .before .before .before .before .before .before .before .before .before .before .before .before .before .before .before .before .before .before .before .before .before .before .before .before .before in
+    let s = c .before .before .before .before .before .before .before .before .before .before .before .before .before .before .before .before .before .before .before .before .before .before .before in
     (record { starts-long = s .pre .0 .starts; points-long = s .pre .0 .points; ranks-long = s .pre .0 .ranks; kept-long = s .pre .0 .kept; opponents-long = s .pre .0 .opponents; colours-long = s .pre .0 .colours; results-long = s .pre .0 .results; lines-long = s .pre .0 .lines }, s .pre .1 .0)
 
 enum-told-8 : tie.Need-enum-told-8
 enum-told-8 c = search needs
 
-returns-3 : tie.Need-returns-3
+returns-2 : tie.Need-returns-2
 unfolding stepRow
-returns-3 c =
-    let s = c .before .before .before .before .before .before .before .before .before .before .before .before .before .before .before .before in
+returns-2 c =
+    let s = c .before .before .before .before .before .before .before .before .before .before .before .before .before .before in
     let a = s .args in
     let row = a .line .now in
     let t = (nine (now (a .starts)) (now (a .points)) (now (a .ranks)) (now (a .kept)) (now (a .opponents)) (now (a .colours)) (now (a .results)) (now (a .text)) (now (a .lines))) in
-    let all = sym (c .before .before .before .before .before .all-allowed .ensures) ∙ not-false _ (c .before .before .before .before .if1 .left) in
+    let all = s .pre .1 .1 .2 in
     let kind = kind-told (kindOf row) passed-over (sym (c .before .before .kind-of .ensures) ∙ ap kindSays (c .enum-told .given .1)) in
-    stepped (a .number .0) (asCount (a .c)) t row (record { fault = 0; counts = a .c }) _ (s .pre .1 .1 .0 .accelerations, s .pre .1 .1 .0 .text) (s .pre .1 .1 .1) (λ ln end e. refl ∙ by-kind row end (state ln (asCount (a .c)) t) all passed-over (c .before .before .before .if2 .left) kind) (s .pre .1 .0)
+    stepped (a .number .0) (asCount (a .c)) t row (record { fault = 0; counts = a .c }) _ (s .pre .1 .1 .0 .accelerations, s .pre .1 .1 .0 .text) (s .pre .1 .1 .1) (λ ln end e. refl ∙ by-kind row end (state ln (asCount (a .c)) t) all passed-over (c .before .before .before .if1 .left) kind) (s .pre .1 .0)
 
 same-length : tie.Need-same-length
 same-length c = search needs
 
-returns-4 : tie.Need-returns-4
+returns-3 : tie.Need-returns-3
 unfolding stepRow
-returns-4 c =
-    let s = c .before .before .before .before .before .before .before .before .before .before .before .before .before .before .before .before .before .before .before .before in
+returns-3 c =
+    let s = c .before .before .before .before .before .before .before .before .before .before .before .before .before .before .before .before .before .before in
     let a = s .args in
     let row = a .line .now in
     let t = (nine (now (a .starts)) (now (a .points)) (now (a .ranks)) (now (a .kept)) (now (a .opponents)) (now (a .colours)) (now (a .results)) (now (a .text)) (now (a .lines))) in
-    let all = sym (c .before .before .before .before .before .before .before .before .before .all-allowed .ensures) ∙ not-false _ (c .before .before .before .before .before .before .before .before .if1 .left) in
+    let all = s .pre .1 .1 .2 in
     let kind = kind-told (kindOf row) kept-text (sym (c .before .before .before .before .before .before .kind-of .ensures) ∙ ap kindSays (c .before .before .before .before .enum-told2 .given .1)) in
-    stepped (a .number .0) (asCount (a .c)) t row (c .before .before .step-text .result) _ (s .pre .1 .1 .0 .accelerations, s .pre .1 .1 .0 .text) (s .pre .1 .1 .1) (λ ln end e. c .before .before .step-text .ensures ln t ∙ by-kind row end (state ln (asCount (a .c)) t) all kept-text (c .before .before .before .before .before .before .before .if2 .left) kind)
+    stepped (a .number .0) (asCount (a .c)) t row (c .before .before .step-text .result) _ (s .pre .1 .1 .0 .accelerations, s .pre .1 .1 .0 .text) (s .pre .1 .1 .1) (λ ln end e. c .before .before .step-text .ensures ln t ∙ by-kind row end (state ln (asCount (a .c)) t) all kept-text (c .before .before .before .before .before .before .before .if1 .left) kind)
     (still-indexed (now (a .starts)) (now (a .index)) (a .number .0 - 1) (asCount (a .c)) t row kept-text refl (c .before .before .step-text .result) _ (c .before .before .step-text .ensures (a .number .0 - 1) t) (s .pre .1 .0))
+
+returns-4 : tie.Need-returns-4
+unfolding stepRow
+returns-4 c =
+    let s = c .before .before .before .before .before .before .before .before .before .before .before .before .before .before .before in
+    let a = s .args in
+    let row = a .line .now in
+    let t = (nine (now (a .starts)) (now (a .points)) (now (a .ranks)) (now (a .kept)) (now (a .opponents)) (now (a .colours)) (now (a .results)) (now (a .text)) (now (a .lines))) in
+    let all = s .pre .1 .1 .2 in
+    let kind = kind-told (kindOf row) 142-record (sym (c .before .before .before .kind-of .ensures) ∙ ap kindSays (c .before .enum-told3 .given .1)) in
+    stepped (a .number .0) (asCount (a .c)) t row (c .step-rounds .result) _ (s .pre .1 .1 .0 .accelerations, s .pre .1 .1 .0 .text) (s .pre .1 .1 .1) (λ ln end e. c .step-rounds .ensures ln t ∙ by-kind row end (state ln (asCount (a .c)) t) all 142-record (c .before .before .before .before .if1 .left) kind)
+    (still-indexed (now (a .starts)) (now (a .index)) (a .number .0 - 1) (asCount (a .c)) t row 142-record refl (c .step-rounds .result) _ (c .step-rounds .ensures (a .number .0 - 1) t) (s .pre .1 .0))
 
 returns-5 : tie.Need-returns-5
 unfolding stepRow
 returns-5 c =
-    let s = c .before .before .before .before .before .before .before .before .before .before .before .before .before .before .before .before .before in
+    let s = c .before .before .before .before .before .before .before .before .before .before .before .before .before .before .before in
     let a = s .args in
     let row = a .line .now in
     let t = (nine (now (a .starts)) (now (a .points)) (now (a .ranks)) (now (a .kept)) (now (a .opponents)) (now (a .colours)) (now (a .results)) (now (a .text)) (now (a .lines))) in
-    let all = sym (c .before .before .before .before .before .before .all-allowed .ensures) ∙ not-false _ (c .before .before .before .before .before .if1 .left) in
-    let kind = kind-told (kindOf row) 142-record (sym (c .before .before .before .kind-of .ensures) ∙ ap kindSays (c .before .enum-told3 .given .1)) in
-    stepped (a .number .0) (asCount (a .c)) t row (c .step-rounds .result) _ (s .pre .1 .1 .0 .accelerations, s .pre .1 .1 .0 .text) (s .pre .1 .1 .1) (λ ln end e. c .step-rounds .ensures ln t ∙ by-kind row end (state ln (asCount (a .c)) t) all 142-record (c .before .before .before .before .if2 .left) kind)
-    (still-indexed (now (a .starts)) (now (a .index)) (a .number .0 - 1) (asCount (a .c)) t row 142-record refl (c .step-rounds .result) _ (c .step-rounds .ensures (a .number .0 - 1) t) (s .pre .1 .0))
+    let all = s .pre .1 .1 .2 in
+    let kind = kind-told (kindOf row) 152-record (sym (c .before .before .before .kind-of .ensures) ∙ ap kindSays (c .before .enum-told4 .given .1)) in
+    stepped (a .number .0) (asCount (a .c)) t row (c .step-colour .result) _ (s .pre .1 .1 .0 .accelerations, s .pre .1 .1 .0 .text) (s .pre .1 .1 .1) (λ ln end e. c .step-colour .ensures ln t ∙ by-kind row end (state ln (asCount (a .c)) t) all 152-record (c .before .before .before .before .if1 .left) kind)
+    (still-indexed (now (a .starts)) (now (a .index)) (a .number .0 - 1) (asCount (a .c)) t row 152-record refl (c .step-colour .result) _ (c .step-colour .ensures (a .number .0 - 1) t) (s .pre .1 .0))
 
 returns-6 : tie.Need-returns-6
 unfolding stepRow
 returns-6 c =
-    let s = c .before .before .before .before .before .before .before .before .before .before .before .before .before .before .before .before .before in
+    let s = c .before .before .before .before .before .before .before .before .before .before .before .before .before .before .before in
     let a = s .args in
     let row = a .line .now in
     let t = (nine (now (a .starts)) (now (a .points)) (now (a .ranks)) (now (a .kept)) (now (a .opponents)) (now (a .colours)) (now (a .results)) (now (a .text)) (now (a .lines))) in
-    let all = sym (c .before .before .before .before .before .before .all-allowed .ensures) ∙ not-false _ (c .before .before .before .before .before .if1 .left) in
-    let kind = kind-told (kindOf row) 152-record (sym (c .before .before .before .kind-of .ensures) ∙ ap kindSays (c .before .enum-told4 .given .1)) in
-    stepped (a .number .0) (asCount (a .c)) t row (c .step-colour .result) _ (s .pre .1 .1 .0 .accelerations, s .pre .1 .1 .0 .text) (s .pre .1 .1 .1) (λ ln end e. c .step-colour .ensures ln t ∙ by-kind row end (state ln (asCount (a .c)) t) all 152-record (c .before .before .before .before .if2 .left) kind)
-    (still-indexed (now (a .starts)) (now (a .index)) (a .number .0 - 1) (asCount (a .c)) t row 152-record refl (c .step-colour .result) _ (c .step-colour .ensures (a .number .0 - 1) t) (s .pre .1 .0))
-
-returns-7 : tie.Need-returns-7
-unfolding stepRow
-returns-7 c =
-    let s = c .before .before .before .before .before .before .before .before .before .before .before .before .before .before .before .before .before in
-    let a = s .args in
-    let row = a .line .now in
-    let t = (nine (now (a .starts)) (now (a .points)) (now (a .ranks)) (now (a .kept)) (now (a .opponents)) (now (a .colours)) (now (a .results)) (now (a .text)) (now (a .lines))) in
-    let all = sym (c .before .before .before .before .before .before .all-allowed .ensures) ∙ not-false _ (c .before .before .before .before .before .if1 .left) in
+    let all = s .pre .1 .1 .2 in
     let kind = kind-told (kindOf row) 162-record (sym (c .before .before .before .kind-of .ensures) ∙ ap kindSays (c .before .enum-told5 .given .1)) in
-    stepped (a .number .0) (asCount (a .c)) t row (c .step-scoring .result) _ (s .pre .1 .1 .0 .accelerations, s .pre .1 .1 .0 .text) (s .pre .1 .1 .1) (λ ln end e. c .step-scoring .ensures ln t ∙ by-kind row end (state ln (asCount (a .c)) t) all 162-record (c .before .before .before .before .if2 .left) kind)
+    stepped (a .number .0) (asCount (a .c)) t row (c .step-scoring .result) _ (s .pre .1 .1 .0 .accelerations, s .pre .1 .1 .0 .text) (s .pre .1 .1 .1) (λ ln end e. c .step-scoring .ensures ln t ∙ by-kind row end (state ln (asCount (a .c)) t) all 162-record (c .before .before .before .before .if1 .left) kind)
     (still-indexed (now (a .starts)) (now (a .index)) (a .number .0 - 1) (asCount (a .c)) t row 162-record refl (c .step-scoring .result) _ (c .step-scoring .ensures (a .number .0 - 1) t) (s .pre .1 .0))
 
 same-length-2 : tie.Need-same-length-2
 same-length-2 c = search needs
 
-returns-8 : tie.Need-returns-8
+returns-7 : tie.Need-returns-7
 unfolding stepRow
-returns-8 c =
-    let s = c .before .before .before .before .before .before .before .before .before .before .before .before .before .before .before .before .before .before .before .before in
+returns-7 c =
+    let s = c .before .before .before .before .before .before .before .before .before .before .before .before .before .before .before .before .before .before in
     let a = s .args in
     let row = a .line .now in
     let t = (nine (now (a .starts)) (now (a .points)) (now (a .ranks)) (now (a .kept)) (now (a .opponents)) (now (a .colours)) (now (a .results)) (now (a .text)) (now (a .lines))) in
-    let all = sym (c .before .before .before .before .before .before .before .before .before .all-allowed .ensures) ∙ not-false _ (c .before .before .before .before .before .before .before .before .if1 .left) in
+    let all = s .pre .1 .1 .2 in
     let kind = kind-told (kindOf row) 250-record (sym (c .before .before .before .before .before .before .kind-of .ensures) ∙ ap kindSays (c .before .before .before .before .enum-told6 .given .1)) in
-    stepped (a .number .0) (asCount (a .c)) t row (c .before .before .step-acceleration .result) _ (s .pre .1 .1 .0 .accelerations, s .pre .1 .1 .0 .text) (s .pre .1 .1 .1) (λ ln end e. c .before .before .step-acceleration .ensures ln t e ∙ by-kind row end (state ln (asCount (a .c)) t) all 250-record (c .before .before .before .before .before .before .before .if2 .left) kind)
+    stepped (a .number .0) (asCount (a .c)) t row (c .before .before .step-acceleration .result) _ (s .pre .1 .1 .0 .accelerations, s .pre .1 .1 .0 .text) (s .pre .1 .1 .1) (λ ln end e. c .before .before .step-acceleration .ensures ln t e ∙ by-kind row end (state ln (asCount (a .c)) t) all 250-record (c .before .before .before .before .before .before .before .if1 .left) kind)
     (still-indexed (now (a .starts)) (now (a .index)) (a .number .0 - 1) (asCount (a .c)) t row 250-record refl (c .before .before .step-acceleration .result) _ (c .before .before .step-acceleration .ensures (a .number .0 - 1) t (less (a .number .0) (s .pre .1 .1 .1))) (s .pre .1 .0))
 
 same-length-3 : tie.Need-same-length-3
@@ -185,35 +174,33 @@ same-length-9 c = search needs
 same-length-10 : tie.Need-same-length-10
 same-length-10 c = search needs
 
+returns-8 : tie.Need-returns-8
+unfolding stepRow
+returns-8 c =
+    let s = c .before .before .before .before .before .before .before .before .before .before .before .before .before .before .before .before .before .before .before .before .before .before .before .before .before .before .before .before .before .before .before .before .before .before .before .before .before .before .before .before in
+    let a = s .args in
+    let row = a .line .now in
+    let t = (nine (now (a .starts)) (now (a .points)) (now (a .ranks)) (now (a .kept)) (now (a .opponents)) (now (a .colours)) (now (a .results)) (now (a .text)) (now (a .lines))) in
+    let all = s .pre .1 .1 .2 in
+    let kind = kind-told (kindOf row) 001-record (sym (c .before .before .before .before .before .before .before .before .before .before .before .before .before .before .before .before .before .before .before .before .before .before .before .before .before .before .before .before .kind-of .ensures) ∙ ap kindSays (c .before .before .before .before .before .before .before .before .before .before .before .before .before .before .before .before .before .before .before .before .before .before .before .before .before .before .enum-told7 .given .1)) in
+    stepped (a .number .0) (asCount (a .c)) t row (c .before .before .before .before .before .before .before .before .before .before .before .before .before .before .before .before .step-player .result) _ (s .pre .1 .1 .0 .accelerations, s .pre .1 .1 .0 .text) (s .pre .1 .1 .1) (λ ln end e. c .before .before .before .before .before .before .before .before .before .before .before .before .before .before .before .before .step-player .ensures .0 ln (now (a .text)) e ∙ by-kind row end (state ln (asCount (a .c)) t) all 001-record (c .before .before .before .before .before .before .before .before .before .before .before .before .before .before .before .before .before .before .before .before .before .before .before .before .before .before .before .before .before .if1 .left) kind) (c .before .before .before .before .before .before .before .before .before .before .before .before .before .before .before .before .step-player .ensures .1)
+
 returns-9 : tie.Need-returns-9
 unfolding stepRow
 returns-9 c =
-    let s = c .before .before .before .before .before .before .before .before .before .before .before .before .before .before .before .before .before .before .before .before .before .before .before .before .before .before .before .before .before .before .before .before .before .before .before .before .before .before .before .before .before .before in
+    let s = c .before .before .before .before .before .before .before .before .before .before .before .before .before .before in
     let a = s .args in
     let row = a .line .now in
     let t = (nine (now (a .starts)) (now (a .points)) (now (a .ranks)) (now (a .kept)) (now (a .opponents)) (now (a .colours)) (now (a .results)) (now (a .text)) (now (a .lines))) in
-    let all = sym (c .before .before .before .before .before .before .before .before .before .before .before .before .before .before .before .before .before .before .before .before .before .before .before .before .before .before .before .before .before .before .before .all-allowed .ensures) ∙ not-false _ (c .before .before .before .before .before .before .before .before .before .before .before .before .before .before .before .before .before .before .before .before .before .before .before .before .before .before .before .before .before .before .if1 .left) in
-    let kind = kind-told (kindOf row) 001-record (sym (c .before .before .before .before .before .before .before .before .before .before .before .before .before .before .before .before .before .before .before .before .before .before .before .before .before .before .before .before .kind-of .ensures) ∙ ap kindSays (c .before .before .before .before .before .before .before .before .before .before .before .before .before .before .before .before .before .before .before .before .before .before .before .before .before .before .enum-told7 .given .1)) in
-    stepped (a .number .0) (asCount (a .c)) t row (c .before .before .before .before .before .before .before .before .before .before .before .before .before .before .before .before .step-player .result) _ (s .pre .1 .1 .0 .accelerations, s .pre .1 .1 .0 .text) (s .pre .1 .1 .1) (λ ln end e. c .before .before .before .before .before .before .before .before .before .before .before .before .before .before .before .before .step-player .ensures .0 ln (now (a .text)) e ∙ by-kind row end (state ln (asCount (a .c)) t) all 001-record (c .before .before .before .before .before .before .before .before .before .before .before .before .before .before .before .before .before .before .before .before .before .before .before .before .before .before .before .before .before .if2 .left) kind) (c .before .before .before .before .before .before .before .before .before .before .before .before .before .before .before .before .step-player .ensures .1)
-
-returns-10 : tie.Need-returns-10
-unfolding stepRow
-returns-10 c =
-    let s = c .before .before .before .before .before .before .before .before .before .before .before .before .before .before .before .before in
-    let a = s .args in
-    let row = a .line .now in
-    let t = (nine (now (a .starts)) (now (a .points)) (now (a .ranks)) (now (a .kept)) (now (a .opponents)) (now (a .colours)) (now (a .results)) (now (a .text)) (now (a .lines))) in
-    let all = sym (c .before .before .before .before .before .all-allowed .ensures) ∙ not-false _ (c .before .before .before .before .if1 .left) in
+    let all = s .pre .1 .1 .2 in
     let kind = kind-told (kindOf row) unlisted (sym (c .before .before .kind-of .ensures) ∙ ap kindSays (c .enum-told8 .given .1)) in
-    stepped (a .number .0) (asCount (a .c)) t row (record { fault = 6; counts = a .c }) _ (s .pre .1 .1 .0 .accelerations, s .pre .1 .1 .0 .text) (s .pre .1 .1 .1) (λ ln end e. refl ∙ by-kind row end (state ln (asCount (a .c)) t) all unlisted (c .before .before .before .if2 .left) kind) (s .pre .1 .0)
+    stepped (a .number .0) (asCount (a .c)) t row (record { fault = 6; counts = a .c }) _ (s .pre .1 .1 .0 .accelerations, s .pre .1 .1 .0 .text) (s .pre .1 .1 .1) (λ ln end e. refl ∙ by-kind row end (state ln (asCount (a .c)) t) all unlisted (c .before .before .before .if1 .left) kind) (s .pre .1 .0)
 
 pub step-spec : {M : Type 1} → statement M
 step-spec =
     tie.close
     (tie.spec
-    all-allowed-requires
     returns
-    returns-2
     kind-of-requires
     enum-told
     enum-told-2
@@ -229,14 +216,14 @@ step-spec =
     enum-told-7
     step-player-requires
     enum-told-8
-    returns-3
+    returns-2
     same-length
+    returns-3
     returns-4
     returns-5
     returns-6
-    returns-7
     same-length-2
-    returns-8
+    returns-7
     same-length-3
     same-length-4
     same-length-5
@@ -245,5 +232,5 @@ step-spec =
     same-length-8
     same-length-9
     same-length-10
-    returns-9
-    returns-10)
+    returns-8
+    returns-9)
