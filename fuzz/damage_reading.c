@@ -171,6 +171,13 @@ static void change_text(chance *c, reading *r)
     }
 }
 
+/* A small letter where the tables have a capital one. */
+static void change_case(chance *c, reading *r)
+{
+    if (r->answer.players == 0 || r->answer.players > TRF_MOST_PLAYERS || r->answer.rounds == 0 || r->answer.rounds > TRF_MOST_ROUNDS) return;
+    r->t.results[entry_cell(below(c, r->answer.players), below(c, r->answer.rounds))] |= 32;
+}
+
 /* Other columns 10 to 79 for a player, all by their rules. */
 static void change_kept(chance *c, reading *r)
 {
@@ -202,7 +209,8 @@ void damage_reading(chance *c, reading *r)
         fill_at_random(c, r);
         return;
     }
-    switch (below(c, 12)) {
+    switch (below(c, 13)) {
+    case 12: change_case(c, r); break;
     case 0: case 1: change_used(c, r); break;
     case 2: case 3: change_unused(c, r); break;
     case 4: change_answer(c, r); break;

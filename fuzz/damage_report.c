@@ -28,21 +28,75 @@ static uint32_t border_column(chance *c, const line *l)
                                       85, 86, 89, 90, 91, 92, 95, 96, 97, 98, 99, 100, 101, 102, 289, 290, 291, 512};
     static const uint16_t RECORD[] = {4, 5, 8, 9, 10, 11, 12, 13, 14, 15, 17, 18, 19, 21, 22, 23, 26, 27, 28, 31, 32, 33, 512};
     static const uint16_t VALUES[] = {4, 5, 6, 7, 8, 9, 10, 11, 14, 15, 16, 17, 18, 19, 20, 24, 33, 42, 50, 51, 52, 53, 54, 55, 56, 60};
+    static const uint16_t ENTRY[] = {0, 1, 2, 3, 3, 4, 5, 5, 5, 6, 7, 7, 7, 8, 9};
     static const uint16_t SHORT[] = {1, 2, 3, 4, 5, 6, 7, 8, 9, 20};
     if (has_code(l, "001")) {
+        uint32_t rounds = l->length > 91 ? (uint32_t)(l->length - 82) / 10 : 0;
         if (one_in(c, 2)) return PLAYER[below(c, COUNT_OF(PLAYER))];
-        return 92 + 10 * below(c, 21) + below(c, 10);
+        return 92 + 10 * below(c, one_in(c, 4) ? 21 : rounds + 1) + ENTRY[below(c, COUNT_OF(ENTRY))];
     }
     if (has_code(l, "250")) return RECORD[below(c, COUNT_OF(RECORD))];
     if (has_code(l, "162")) return VALUES[below(c, COUNT_OF(VALUES))];
     return SHORT[below(c, COUNT_OF(SHORT))];
 }
 
+/* A byte that an entry's column may have, or nearly. */
+static uint8_t entry_byte(chance *c, uint32_t column)
+{
+    uint32_t offset = (column - 92) % 10;
+    return byte_of(c, offset == 5 ? " wb-WB" : offset == 7 ? "1=0WDL+-HFUZwdlhfuz ?" : offset < 4 ? " 0123456789" : " x");
+}
+
 static void change_column(chance *c, report *r)
 {
     line *l = any_line(c, r);
     uint32_t column = one_in(c, 3) ? between(c, 1, (uint32_t)l->length + 4) : border_column(c, l);
-    put_column(l, column, any_byte(c));
+    int is_entry = has_code(l, "001") && column >= 92 && column < 290;
+    put_column(l, column, is_entry && !one_in(c, 3) ? entry_byte(c, column) : any_byte(c));
+}
+
+/* A few columns blank, or as another line has them: mostly whole fields. */
+static void change_field(chance *c, report *r)
+{
+    line *l = any_line(c, r);
+    const line *other = any_line(c, r);
+    size_t first = border_column(c, l), last = first + below(c, 10);
+    int is_blank = one_in(c, 3);
+    for (size_t column = first; column <= last && column <= l->length; column++)
+        put_column(l, column, is_blank || column > other->length ? ' ' : other->bytes[column - 1]);
+}
+
+/* The report's 162 line, or one that is put into it. */
+static line *values_line(chance *c, report *r)
+{
+    static const char LINE[] = "162  W 1.0    D 0.5    L 0.0";
+    for (size_t i = 0; i < r->count; i++)
+        if (has_code(line_at(r, i), "162")) return line_at(r, i);
+    return insert_line(r, below(c, (uint32_t)r->count + 1), (const uint8_t *)LINE, strlen(LINE), END_CR);
+}
+
+/* A slot of 162 is blank, or as another one, or says something else. */
+static void change_slot(chance *c, report *r)
+{
+    line *l = values_line(c, r);
+    size_t slot = 6 + 9 * below(c, 6), other = 6 + 9 * below(c, 6);
+    if (!l) return;
+    while (l->length < 55) put_column(l, l->length + 1, ' ');
+    if (one_in(c, 3)) memset(l->bytes + slot - 1, ' ', 5);
+    else if (one_in(c, 2)) memmove(l->bytes + slot - 1, l->bytes + other - 1, 5);
+    else l->bytes[slot - 1] = byte_of(c, "WDLAPX"), put_points(l, slot + 1, below(c, 1000), 0);
+}
+
+/* One number of a 250 record, at the edge of what it may be. */
+static void change_bound(chance *c, report *r)
+{
+    static const uint16_t EDGES[] = {0, 0, 1, 19, 20, 21, 999, 9998, 9999};
+    trf_acceleration a = {between(c, 1, 999), between(c, 1, 3), between(c, 3, 20), between(c, 1, 50), between(c, 50, 9999)};
+    uint32_t *parts[] = {&a.points, &a.first_round, &a.last_round, &a.first_start, &a.last_start};
+    line *l = insert_line(r, below(c, (uint32_t)r->count + 1), (const uint8_t *)"", 0, END_CR);
+    if (!l) return;
+    *parts[below(c, 5)] = EDGES[below(c, COUNT_OF(EDGES))];
+    spell_acceleration(c, l, &a);
 }
 
 /* All columns after a place move by one. */
@@ -151,10 +205,11 @@ static uint32_t count_code(report *r, const char *code)
 static void add_players(chance *c, report *r)
 {
     uint32_t wanted = between(c, 199, 203);
+    int last_repeats = one_in(c, 3);
     for (uint32_t there = count_code(r, "001"); there < wanted; there++) {
         line *l = insert_line(r, r->count, (const uint8_t *)"001", 3, END_CR);
         if (!l) return;
-        put_number(l, 5, 8, 9999 - there, 0);
+        put_number(l, 5, 8, 9999 - there + (last_repeats && there + 1 == wanted), 0);
         put_points(l, 81, 0, 0);
         put_number(l, 86, 89, there + 1, 0);
     }
@@ -204,7 +259,7 @@ typedef void change(chance *c, report *r);
 static change *const CHANGES[] = {
     change_column, change_column, change_column, change_column, change_column, change_column, change_column, change_column,
     shift_columns, shift_columns, cut_line, lengthen_line, lengthen_line, put_bad_byte, put_bad_byte, change_end, change_end, drop_last_end,
-    change_code, change_code, repeat_line, repeat_line, repeat_record, lose_line, lose_records, move_line, add_passed, add_text_lines, add_accelerations,
+    change_field, change_field, change_field, change_slot, change_bound, change_code, change_code, repeat_line, repeat_line, repeat_record, lose_line, lose_records, move_line, add_passed, add_text_lines, add_accelerations,
 };
 
 void damage_report(chance *c, report *r)
@@ -213,7 +268,7 @@ void damage_report(chance *c, report *r)
         add_passed(c, r);
         return;
     }
-    if (one_in(c, 90)) add_players(c, r);
+    if (one_in(c, 80)) add_players(c, r);
     else CHANGES[below(c, COUNT_OF(CHANGES))](c, r);
 }
 

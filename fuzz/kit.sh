@@ -8,10 +8,13 @@ tools=$kit/on/$(uname -m)/toolchain
 made=$here/target/fuzz
 archive=$here/target/staticlib/libface.a
 
-# compile SOURCE OBJECT
+# compile SOURCE OBJECT WORD...
 compile() {
+    source=$1
+    object=$2
+    shift 2
     "$tools/bin/clang" --target=x86_64-unknown-linux-gnu --no-default-config -std=gnu11 -O2 -fPIC -Wall -Wextra -DPENUMBRICO_NO_HEADERS \
-        -I"$here/include" -I"$here/bench" -c "$1" -o "$2" || fail "$1 does not compile"
+        -I"$here/include" -I"$here/bench" "$@" -c "$source" -o "$object" || fail "$source does not compile"
 }
 
 # The proved library, made where it is missing or older than a source.
@@ -23,15 +26,17 @@ make_archive() {
 make_objects() {
     mkdir -p "$made/objects" || exit 1
     rm -f "$made"/objects/*.o
-    for source in "$here"/fuzz/*.c; do compile "$source" "$made/objects/$(basename "$source" .c).o"; done
+    for part in "$here"/fuzz/*.c; do compile "$part" "$made/objects/$(basename "$part" .c).o"; done
 }
 
-# link_fuzzer PROGRAM PLAIN_OBJECT: the fuzzer over the proved library and one plain program
+# link_fuzzer PROGRAM FILE...: the fuzzer over two programs, each an object or an archive
 link_fuzzer() {
+    program=$1
+    shift
     lib=$tools/lib
-    "$tools/bin/ld.lld" -pie -z now -dynamic-linker "$lib/ld-linux-x86-64.so.2" -o "$1" "$lib/Scrt1.o" "$lib/crti.o" "$lib/crtbeginS.o" \
-        "$made"/objects/*.o "$2" "$archive" "$lib/libc.so.6" "$lib/libc_nonshared.a" "$lib/libgcc.a" "$lib/libgcc_s.so.1" "$lib/crtendS.o" "$lib/crtn.o" ||
-        fail "$1 does not link"
+    "$tools/bin/ld.lld" -pie -z now -dynamic-linker "$lib/ld-linux-x86-64.so.2" -o "$program" "$lib/Scrt1.o" "$lib/crti.o" "$lib/crtbeginS.o" \
+        "$made"/objects/*.o "$@" "$lib/libc.so.6" "$lib/libc_nonshared.a" "$lib/libgcc.a" "$lib/libgcc_s.so.1" "$lib/crtendS.o" "$lib/crtn.o" ||
+        fail "$program does not link"
 }
 
 # run_fuzzer PROGRAM WORD...: over the vectors, in an order that no locale changes

@@ -113,6 +113,8 @@ trf_answer read_both(chance *c, const uint8_t *bytes, size_t length, const lengt
     memcpy(at, bytes, length);
     memcpy(&around, noise + below(c, sizeof noise - sizeof around), sizeof around);
     now.lent = *lent;
+    now.read = bytes;
+    now.read_length = length;
     for (int i = 0; i < 2; i++) {
         found[i] = around;
         now.step = i == 0 ? "read, proved side" : "read, plain side";

@@ -10,8 +10,8 @@ enum { NUMBERS = 21, READS = 0, WRITES = 1, ASKS = 2, CALLS = 3 };
 typedef struct {
     uint64_t seed, input;
     const char *kind, *step;
-    const uint8_t *bytes;
-    size_t length;
+    const uint8_t *bytes, *read; /* the input, and what was read last: the input or a written report */
+    size_t length, read_length;
     const reading *base, *given; /* the accepted reading, and what was handed to writer or question */
     lengths lent;
     size_t room;

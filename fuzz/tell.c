@@ -25,7 +25,7 @@ int clock_gettime(int clock, struct timespec *now);
 enum { READ_AND_WRITE = 3, PRIVATE_ANONYMOUS = 0x22, PAGE = 4096, MONOTONIC = 1 };
 enum { PATIENCE = 120 }; /* seconds in which a few hundred inputs must be done */
 
-static const char *folder = ".";
+static char folder[2048]; /* a copy: a broken program may overwrite the words that it was called with */
 
 uint8_t *room_before_a_wall(size_t bytes)
 {
@@ -66,11 +66,11 @@ static FILE *open_in_folder(const char *name)
     return f;
 }
 
-static void save_input(void)
+static void save_bytes(const char *name, const uint8_t *bytes, size_t length)
 {
-    FILE *f = open_in_folder("disagreement.trf");
+    FILE *f = open_in_folder(name);
     if (!f) return;
-    fwrite(now.bytes, 1, now.length, f);
+    fwrite(bytes, 1, length, f);
     fclose(f);
 }
 
@@ -122,7 +122,8 @@ static void save_words(const char *words)
 static void tell(const char *words)
 {
     printf("disagreement at input %lu of seed %lu (%s)\n%s: %s\n", (unsigned long)now.input, (unsigned long)now.seed, now.kind, now.step, words);
-    save_input();
+    save_bytes("disagreement.trf", now.bytes, now.length);
+    if (now.read && now.read != now.bytes) save_bytes("disagreement-written.trf", now.read, now.read_length);
     save_words(words);
     fflush(0);
 }
@@ -150,7 +151,7 @@ static void tell_of_signal(int number)
 void tell_in(const char *path)
 {
     static const int SIGNALS[] = {4, 6, 7, 8, 11, 14};
-    folder = path;
+    snprintf(folder, sizeof folder, "%s", path);
     for (size_t i = 0; i < COUNT_OF(SIGNALS); i++) signal(SIGNALS[i], tell_of_signal);
 }
 
