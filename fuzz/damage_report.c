@@ -122,13 +122,14 @@ static void cut_line(chance *c, report *r)
 }
 
 /* To 511, 512, 513 or more bytes. */
-static void lengthen_line(chance *c, report *r)
+static void lengthen(chance *c, line *l)
 {
-    line *l = any_line(c, r);
     size_t to = one_in(c, 5) ? between(c, 513, LINE_ROOM) : between(c, 510, 515);
     uint8_t byte = one_in(c, 2) ? ' ' : draw_text_byte(c);
     while (l->length < to) put_column(l, l->length + 1, byte);
 }
+
+static void lengthen_line(chance *c, report *r) { lengthen(c, any_line(c, r)); }
 
 static void put_bad_byte(chance *c, report *r)
 {
@@ -139,11 +140,15 @@ static void put_bad_byte(chance *c, report *r)
 
 static void change_end(chance *c, report *r) { any_line(c, r)->end = (int)below(c, ENDS); }
 
+/* The last line without its CR, at times with nothing but a few bytes, at times too long as well. */
 static void drop_last_end(chance *c, report *r)
 {
-    line *l = line_at(r, r->count - 1);
-    if (one_in(c, 3)) l = insert_line(r, r->count, (const uint8_t *)"  ###  142 1"  + below(c, 8), below(c, 4), END_NONE);
-    if (l) l->end = END_NONE;
+    static const char *const RESTS[] = {" ", "   ", "###", "142 1", "013", "x"};
+    const char *rest = RESTS[below(c, COUNT_OF(RESTS))];
+    line *l = one_in(c, 3) ? insert_line(r, r->count, (const uint8_t *)rest, strlen(rest), END_NONE) : line_at(r, r->count - 1);
+    if (!l) return;
+    l->end = END_NONE;
+    if (one_in(c, 6)) lengthen(c, l);
 }
 
 /* Codes that are not listed, and listed ones over another line's columns. */

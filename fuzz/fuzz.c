@@ -302,7 +302,7 @@ int main(int words, char **word)
     double start = seconds_now();
     uint64_t done = run(&o);
     double taken = seconds_now() - start;
-    printf("seed %lu, inputs %lu to %lu, %lu vectors\n", (unsigned long)o.seed, (unsigned long)o.first, (unsigned long)(o.first + done), (unsigned long)vectors_read);
+    printf("seed %lu, %lu inputs from %lu on, %lu vectors\n", (unsigned long)o.seed, (unsigned long)done, (unsigned long)o.first, (unsigned long)vectors_read);
     for (int kind = 0; kind < KINDS; kind++) printf("%12lu %s\n", (unsigned long)kinds[kind], KIND[kind]);
     print_counts();
     printf("%lu inputs in %.1f seconds, %.0f a second\n", (unsigned long)done, taken, (double)done / taken);
