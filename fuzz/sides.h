@@ -37,6 +37,6 @@ const uint8_t *written_bytes(void);
 void expect_reading(const reading *found, const reading *expected, int with_lines, const char *law);
 
 /* Tells of the disagreement and ends the program. */
-void disagree(const char *what, ...);
+void disagree(const char *what, ...) __attribute__((noreturn));
 
 #endif
