@@ -1,0 +1,315 @@
+/* The fuzzer: the proved library and the plain program on the same bytes. Its README says what is made, compared and counted.
+
+   fuzz [seed=N] [first=N] [inputs=N] [seconds=N] [least=N] [found=FOLDER] VECTOR...
+
+   Input N of a seed is the same in every run over the same vectors: each input has a chance of its own. */
+#include "damage.h"
+#include "tell.h"
+
+int printf(const char *format, ...);
+unsigned long strtoul(const char *text, char **end, int base);
+void *malloc(size_t bytes);
+
+typedef struct {
+    uint64_t seed, first, inputs, seconds, least;
+    const char *found;
+} options;
+
+static file *vectors;
+static size_t vectors_read;
+
+static tournament made;
+static report lines;
+static file input;
+static reading got, again, given;
+
+enum { BYTES_AT_RANDOM, A_VECTOR, A_DAMAGED_VECTOR, A_TOURNAMENT, A_DAMAGED_TOURNAMENT, KINDS };
+static const char *const KIND[KINDS] = {"bytes at random", "a vector", "a damaged vector", "a tournament", "a damaged tournament"};
+static uint64_t kinds[KINDS];
+
+/* Any bytes, bytes of the format's alphabet, or lines that begin as records. */
+static void make_at_random(chance *c)
+{
+    static const char *const BEGINS[] = {"001 ", "012 ", "112", "142 ", "152 ", "162  ", "250      ", "###", "013 ", "222 "};
+    int alphabet = (int)below(c, 3);
+    uint32_t left = one_in(c, 3) ? below(c, 600) : below(c, 60);
+    const char *begin = "";
+    input.length = 0;
+    for (; left > 0; left--) {
+        uint8_t byte = (uint8_t)(alphabet == 0 ? below(c, 256) : byte_of(c, "\r\r\n 0123456789.-=+wbWDLAPXHFUZ#"));
+        int is_start = input.length == 0 || input.bytes[input.length - 1] == '\r';
+        if (alphabet == 2 && is_start) begin = BEGINS[below(c, COUNT_OF(BEGINS))];
+        input.bytes[input.length++] = *begin ? (uint8_t)*begin++ : byte;
+    }
+}
+
+static void take_vector(chance *c)
+{
+    const file *v = &vectors[below(c, (uint32_t)vectors_read)];
+    input.length = v->length;
+    memcpy(input.bytes, v->bytes, v->length);
+}
+
+/* Once mostly, at times twice or more, so that one refusal must be given before another. */
+static uint32_t draw_times(chance *c)
+{
+    uint32_t times = 1;
+    while (times < 4 && one_in(c, 3)) times++;
+    return times;
+}
+
+static void damage_lines_and_bytes(chance *c, uint32_t times)
+{
+    while (times-- > 0) damage_report(c, &lines);
+    join_lines(&lines, &input);
+    if (one_in(c, 6)) damage_file(c, &input);
+}
+
+/* Lines of another vector among those of this one. */
+static void splice(chance *c)
+{
+    static report others;
+    const file *v = &vectors[below(c, (uint32_t)vectors_read)];
+    part_lines(v->bytes, v->length, &others);
+    for (uint32_t left = draw_times(c); left > 0 && others.count > 0; left--) {
+        const line *l = line_at(&others, below(c, (uint32_t)others.count));
+        insert_line(&lines, below(c, (uint32_t)lines.count + 1), l->bytes, l->length, l->end);
+    }
+}
+
+static void damage_vector(chance *c)
+{
+    take_vector(c);
+    if (one_in(c, 4)) {
+        for (uint32_t left = draw_times(c); left > 0; left--) damage_file(c, &input);
+        return;
+    }
+    part_lines(input.bytes, input.length, &lines);
+    if (one_in(c, 5)) splice(c);
+    damage_lines_and_bytes(c, draw_times(c));
+}
+
+static void make_tournament(chance *c)
+{
+    draw_tournament(c, &made);
+    spell(c, &made, &lines);
+    join_lines(&lines, &input);
+}
+
+static void make_damaged_tournament(chance *c)
+{
+    uint32_t in_lines = one_in(c, 2) ? draw_times(c) : 0, in_tournament = in_lines == 0 || one_in(c, 4) ? draw_times(c) : 0;
+    draw_tournament(c, &made);
+    while (in_tournament-- > 0) damage_tournament(c, &made);
+    spell(c, &made, &lines);
+    damage_lines_and_bytes(c, in_lines);
+}
+
+static int draw_kind(chance *c)
+{
+    static const int SHARES[KINDS] = {8, 1, 31, 20, 40};
+    int at = (int)below(c, 100), kind = 0;
+    while (at >= SHARES[kind]) at -= SHARES[kind++];
+    return vectors_read == 0 && kind < A_TOURNAMENT ? BYTES_AT_RANDOM : kind;
+}
+
+static int make_input(chance *c)
+{
+    int kind = draw_kind(c);
+    switch (kind) {
+    case BYTES_AT_RANDOM: make_at_random(c); break;
+    case A_VECTOR: take_vector(c); break;
+    case A_DAMAGED_VECTOR: damage_vector(c); break;
+    case A_TOURNAMENT: make_tournament(c); break;
+    default: make_damaged_tournament(c);
+    }
+    kinds[kind]++;
+    return kind;
+}
+
+/* The listed sizes mostly; at times more, or one table short. */
+static lengths draw_lengths(chance *c)
+{
+    lengths lent = listed_lengths();
+    if (one_in(c, 8))
+        for (int i = 0; i < ALL_TABLES; i++) lent.cells[i] += below(c, MORE + 1);
+    if (one_in(c, 30)) {
+        size_t *cells = &lent.cells[below(c, ALL_TABLES)];
+        *cells = one_in(c, 8) ? 0 : one_in(c, 4) ? below(c, (uint32_t)*cells) : *cells;
+        if (!one_in(c, 8)) *cells -= *cells > 0;
+    }
+    return lent;
+}
+
+/* Exact, one short, none, or more than is wanted. */
+static size_t draw_room(chance *c, size_t wanted)
+{
+    switch (below(c, 6)) {
+    case 0: return wanted;
+    case 1: return wanted > 0 ? wanted - 1 : 0;
+    case 2: return below(c, (uint32_t)wanted + 1);
+    case 3: return wanted + below(c, 60);
+    default: return wanted + 1;
+    }
+}
+
+static void ask_some(chance *c, const reading *r)
+{
+    static const uint32_t PLACES[] = {199, 200, 201, 4294967295u}, ROUNDS[] = {0, 20, 21, 4294967295u};
+    uint32_t players = r->answer.players, rounds = r->answer.rounds;
+    for (uint32_t left = between(c, 1, 3); left > 0; left--) {
+        lengths lent = draw_lengths(c);
+        uint32_t place = one_in(c, 8) ? PLACES[below(c, 4)] : one_in(c, 8) ? players : below(c, players);
+        uint32_t round = one_in(c, 8) ? ROUNDS[below(c, 4)] : one_in(c, 8) ? rounds + 1 : between(c, 1, rounds);
+        ask_both(r, &lent, place, round);
+    }
+}
+
+/* The lines of a written report: text, 142, 152 if known, 162, the 250 lines, the 001 lines. */
+static void number_lines(reading *r)
+{
+    uint32_t before = 2 + (r->answer.colour != 0);
+    for (size_t i = 0; i < r->answer.text; i++) before += r->t.text[i] == '\r';
+    memset(r->t.lines, 0, TRF_LINE_CELLS * sizeof r->t.lines[0]);
+    for (uint32_t i = 0; i < r->answer.accelerations; i++) r->t.lines[TRF_MOST_PLAYERS + i] = before + 1 + i;
+    for (uint32_t i = 0; i < r->answer.players; i++) r->t.lines[i] = before + r->answer.accelerations + 1 + i;
+}
+
+/* What was written reads as the same tournament, and is written again byte by byte. */
+static void law_of_round_trip(chance *c, reading *r, size_t length)
+{
+    static uint8_t first[TRF_MOST_WRITTEN];
+    lengths lent = listed_lengths();
+    memcpy(first, written_bytes(), length);
+    read_both(c, first, length, &lent, &again);
+    number_lines(r);
+    expect_reading(&again, r, 1, "a written report, read");
+    trf_written w = write_both(c, &again, &lent, length);
+    if (w.number != 0 || w.length != length || memcmp(written_bytes(), first, length) != 0) disagree("a written report is not written again unchanged");
+}
+
+/* A reading to writer and question, with all kinds of room. Hands back whether it is an accepted file's. */
+static int try_reading(chance *c, reading *r)
+{
+    lengths lent = listed_lengths(), other = draw_lengths(c);
+    trf_written w = write_both(c, r, &lent, TRF_MOST_WRITTEN);
+    if (w.number == 19) disagree("room for every report was too short");
+    if (w.number == 0) law_of_round_trip(c, r, w.length);
+    write_both(c, r, &other, draw_room(c, w.number == 0 ? w.length : below(c, 3000)));
+    ask_some(c, r);
+    return w.number == 0;
+}
+
+static void try_damaged(chance *c)
+{
+    given = got;
+    for (uint32_t left = draw_times(c); left > 0; left--) damage_reading(c, &given);
+    try_reading(c, &given);
+}
+
+/* A lawful tournament is read as it was drawn, if its spelling has not made the file too long. */
+static void law_of_tournament(void)
+{
+    if (input.length <= TRF_MOST_FILE) expect_reading(&got, &made.r, 1, "a lawful tournament, read");
+    else if (got.answer.number != 2) disagree("number %u for %lu bytes", got.answer.number, (unsigned long)input.length);
+}
+
+static void one_input(uint64_t seed, uint64_t number)
+{
+    chance c = {seed * 0x9e3779b97f4a7c15u ^ (number + 1) * 0xd1342543de82ef95u};
+    lengths lent = draw_lengths(&c);
+    now = (trial){.seed = seed, .input = number, .kind = "", .step = "making the input", .bytes = input.bytes, .base = &got};
+    int kind = make_input(&c);
+    now.kind = KIND[kind];
+    now.length = input.length;
+    trf_answer a = read_both(&c, input.bytes, input.length, &lent, &got);
+    if (kind == A_TOURNAMENT && a.number != 1) law_of_tournament();
+    if (a.number == 0) {
+        given = got;
+        if (!try_reading(&c, &given)) disagree("an accepted reading is refused by the writer");
+        for (uint32_t left = between(&c, 1, 2); left > 0; left--) try_damaged(&c);
+    } else if (one_in(&c, 16)) {
+        given = got;
+        try_reading(&c, &given);
+    }
+}
+
+static int is_due(int call, int number)
+{
+    if (call == READS) return number <= 17;
+    return number <= 1 || number == 18 || number == (call == WRITES ? 19 : 20);
+}
+
+static void print_counts(void)
+{
+    printf("%6s %12s %12s %12s\n", "answer", "read", "write", "ask");
+    for (int number = 0; number < NUMBERS; number++) {
+        printf("%6d", number);
+        for (int call = 0; call < CALLS; call++) {
+            if (is_due(call, number)) printf(" %12lu", (unsigned long)counts[call][number]);
+            else printf(" %12s", "-");
+        }
+        printf("\n");
+    }
+}
+
+/* Whether every answer that a call can give came up often enough. */
+static int reached_all(uint64_t least)
+{
+    int all = 1;
+    for (int call = 0; call < CALLS; call++)
+        for (int number = 0; number < NUMBERS; number++) {
+            if (!is_due(call, number) && counts[call][number] > 0) disagree("number %d is not one of this call", number);
+            all &= !is_due(call, number) || counts[call][number] >= least;
+        }
+    return all;
+}
+
+static uint64_t run(const options *o)
+{
+    double start = seconds_now();
+    for (uint64_t i = 0; i < o->inputs; i++) {
+        if (i % 256 == 0) still_alive();
+        if (i % 256 == 0 && o->seconds > 0 && seconds_now() - start >= (double)o->seconds) return i;
+        one_input(o->seed, o->first + i);
+    }
+    return o->inputs;
+}
+
+static int is_option(const char *word, const char *name, uint64_t *value)
+{
+    size_t length = strlen(name);
+    if (strncmp(word, name, length) != 0) return 0;
+    *value = strtoul(word + length, 0, 10);
+    return 1;
+}
+
+static void take_word(options *o, const char *word)
+{
+    if (is_option(word, "seed=", &o->seed) || is_option(word, "first=", &o->first) || is_option(word, "inputs=", &o->inputs)) return;
+    if (is_option(word, "seconds=", &o->seconds) || is_option(word, "least=", &o->least)) return;
+    if (strncmp(word, "found=", 6) == 0) o->found = word + 6;
+    else vectors[vectors_read].length = load(word, vectors[vectors_read].bytes, TRF_MOST_FILE), vectors_read++;
+}
+
+int main(int words, char **word)
+{
+    options o = {.seed = 1, .inputs = 1000, .found = "."};
+    vectors = malloc((size_t)words * sizeof *vectors);
+    for (int i = 1; i < words; i++) take_word(&o, word[i]);
+    tell_in(o.found);
+    prepare_sides();
+    double start = seconds_now();
+    uint64_t done = run(&o);
+    double taken = seconds_now() - start;
+    printf("seed %lu, %lu inputs from %lu on, %lu vectors\n", (unsigned long)o.seed, (unsigned long)done, (unsigned long)o.first, (unsigned long)vectors_read);
+    for (int kind = 0; kind < KINDS; kind++) printf("%12lu %s\n", (unsigned long)kinds[kind], KIND[kind]);
+    print_counts();
+    printf("%lu inputs in %.1f seconds, %.0f a second\n", (unsigned long)done, taken, (double)done / taken);
+    if (!reached_all(o.least)) {
+        printf("some answer came up fewer than %lu times\n", (unsigned long)o.least);
+        return 1;
+    }
+    printf("no disagreement\n");
+    return 0;
+}
