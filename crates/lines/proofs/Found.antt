@@ -15,7 +15,7 @@ use Rattle.kit.specs.Lists.{all}
 use Rattle.kit.proofs.Bools.{and, all-same, clash}
 use Rattle.law.specs.Lines.{CR, LF, allowed, Line, hasNoCR, startsWithLF}
 use Rattle.law.proofs.Cut.{push, cut, endFor, cut-text, cut-last, cut-after}
-use Rattle.lines.specs.Step.{NoCR, CRFrom, Clean, Stop, BrokenAt, FoulAt, WholeAt}
+use Rattle.lines.specs.Step.{NoCR, CRFrom, Clean, Stop, FaultAt, WholeAt}
 
 -- ---- after a CR: an LF belongs to its terminator; another byte starts the next line; at the end of the file there is none
 after-lf : (file : List ℕ) (a : ℕ) → a < length file → getD file a 0 ≡ LF → cut true (drop a file) ≡ cut false (drop (suc a) file)
@@ -142,12 +142,13 @@ module _ (file : List ℕ) (at r : ℕ) (f : CRFrom file at r) where
     pub whole-other : r + 1 < length file → (getD file (r + 1) 0 ≡ LF → ⊥) → WholeAt file at at r (r + 1)
     whole-other k e = whole (r + 1) (omega arith) (omega arith) (rw (add-one r) (after-other file (suc r) (omega arith) (rw (← (add-one r)) e)))
 
-    pub broken : at < length file → length file ≤ r → BrokenAt file at
+    pub broken : at < length file → length file ≤ r → FaultAt file at 4
     broken h k =
         let e : drop at file ≡ text = split ∙ ap (λ (l : List ℕ). text ++ l) (drop-of-length-le file k) ∙ append-nil text in
         record {
-          text = text;
-          clean = clean;
+          line = record { text = text; end = none };
+          others = [];
+          fault = rw clean refl;
           lines = last-line (drop at file) (omega (arith, length-drop at file)) (ap hasNoCR e ∙ text-free) ∙ ap (λ (l : List ℕ). record { text = l; end = none } ∷ []) e;
         }
 
@@ -162,8 +163,8 @@ module _ {file : List ℕ} {at r : ℕ} (s : Stop file at (length file) r) where
   no-cr-before : NoCR file at r
   no-cr-before k l m q = clash (ap allowed (sym q) ∙ s .clean k l m)
 
-  pub foul : r < length file → (getD file r 0 ≡ CR → ⊥) → FoulAt file at
-  foul l ne = record { line = record { text = text ++ p .0 .text; end = p .0 .end }; others = p .1; foul = bad; lines = cut-is }
+  pub foul : r < length file → (getD file r 0 ≡ CR → ⊥) → FaultAt file at 3
+  foul l ne = record { line = record { text = text ++ p .0 .text; end = p .0 .end }; others = p .1; lines = cut-is; fault = rw bad refl }
     where
       text : List ℕ
       text = take (r - at) (drop at file)

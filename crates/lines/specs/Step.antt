@@ -1,12 +1,11 @@
 -- What a step of the cursor says: the lines of what is left are the line that it found and the lines from the next cursor on.
 use mathlib.Core.Path.{_≡_}
-use mathlib.Core.Bool.{true, false}
-use mathlib.Core.Option.{none}
+use mathlib.Core.Bool.{true, false, cond}
 use mathlib.Core.List.{List, [], _∷_}
 use Prim.Native.Nat.{ℕ, suc, _-_, _≤_, _<_}
 use lib.ListN.{length, getD, take, drop}
 use Rattle.kit.specs.Lists.{all}
-use Rattle.law.specs.Lines.{CR, Line, startsWithLF, allowed}
+use Rattle.law.specs.Lines.{CR, Line, isEnded, startsWithLF, allowed}
 use Rattle.law.proofs.Cut.{cut, endFor}
 use Rattle.lines.specs.declared.Step.{Step}
 use Rattle.lines.specs.declared.Step.the-variants.{Whole, Broken, Foul, Done}
@@ -33,18 +32,16 @@ pub record Stop (file : List ℕ) (at to r : ℕ) : Type 0 where
   pub clean : Clean file at r
   pub there : r < to → allowed (getD file r 0) ≡ false
 
--- a last line of allowed bytes, without its terminator
-pub record BrokenAt (file : List ℕ) (at : ℕ) : Type 0 where
-  pub text : List ℕ
-  pub clean : all allowed text ≡ true
-  pub lines : cut false (drop at file) ≡ record { text = text; end = none } ∷ []
+-- what is refused of a line before anything else: 3, then 4
+abbrev pub byteFault : Line → ℕ
+byteFault l = cond (all allowed (l .text)) (cond (isEnded (l .end)) 0 4) 3
 
--- a line with a byte that is not allowed
-pub record FoulAt (file : List ℕ) (at : ℕ) : Type 0 where
+-- the first line is refused by that number
+pub record FaultAt (file : List ℕ) (at number : ℕ) : Type 0 where
   pub line : Line
   pub others : List Line
-  pub foul : all allowed (line .text) ≡ false
   pub lines : cut false (drop at file) ≡ line ∷ others
+  pub fault : byteFault line ≡ number
 
 -- a line of allowed bytes with its terminator; next is the place past that
 pub record WholeAt (file : List ℕ) (at from to next : ℕ) : Type 0 where
@@ -57,6 +54,6 @@ pub record WholeAt (file : List ℕ) (at from to next : ℕ) : Type 0 where
 
 unfoldable pub StepMeans : List ℕ → ℕ → Step → Type 0
 StepMeans file at Done = cut false (drop at file) ≡ []
-StepMeans file at Broken = BrokenAt file at
-StepMeans file at Foul = FoulAt file at
+StepMeans file at Broken = FaultAt file at 4
+StepMeans file at Foul = FaultAt file at 3
 StepMeans file at (Whole from to next) = WholeAt file at from to (next .at)

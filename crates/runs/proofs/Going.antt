@@ -10,12 +10,12 @@ use lib.ListN.{length, take, drop}
 use borrow.Author.Tests.{eq-eqb, ne-eqb}
 use Rattle.kit.specs.Lists.{all}
 use Rattle.kit.proofs.Bools.{clash}
-use Rattle.law.specs.Lines.{allowed, Line, End, cr, crlf, startsWithLF}
+use Rattle.law.specs.Lines.{allowed, isEnded, Line, End, cr, crlf, startsWithLF}
 use Rattle.law.proofs.Cut.{cut, endFor}
 use Rattle.join.specs.Run.{Way, on, stop, next, runAll}
 use Rattle.join.specs.Store.{Nine, State, state, stepLine}
 use Rattle.join.specs.Kept.{Long}
-use Rattle.lines.specs.Step.{BrokenAt, FoulAt, WholeAt}
+use Rattle.lines.specs.Step.{byteFault, FaultAt, WholeAt}
 use Rattle.checks.specs.Laws.{Indexed}
 use Rattle.steps.specs.declared.Counts.{Counts}
 use Rattle.steps.specs.declared.Stepped.{Stepped}
@@ -49,9 +49,6 @@ long-as a l =
       lines = rw (a .lines) (l .lines);
     }
 
-abbrev no-end : Option End
-no-end = none
-
 -- at byte at, after ln lines
 pub record Going (file : List ℕ) (b : Nine) (nothing : Counts) (t : Nine) (index : List ℕ) (c : Counts) (at ln : ℕ) : Type 0 where
   pub within : at ≤ length file
@@ -84,21 +81,15 @@ module _ {file : List ℕ} {b : Nine} {nothing : Counts} {t : Nine} {index : Lis
   back : ln + 1 - 1 ≡ ln
   back = omega arith
 
-  broken : (text : List ℕ) → all allowed text ≡ true
-      → ran (record { fault = 4; line = record { 0 = ln + 1 }; counts = c }) t ≡ runAll stepLine (record { text = text; end = no-end } ∷ []) ln (state ln (asCount c) t)
+  stopped : (l : Line) (others : List Line) (a b : Bool) → all allowed (l .text) ≡ a → isEnded (l .end) ≡ b → (k : ℕ) → cond a (cond b 0 4) 3 ≡ k → (k ≡ 0 → ⊥)
+      → ran (record { fault = k; line = record { 0 = ln + 1 }; counts = c }) t ≡ runAll stepLine (l ∷ others) ln (state ln (asCount c) t)
   unfolding runAll stepLine
-  broken text e = rw (e, back) refl
+  stopped l others true true p q k e n = absurd (n (sym e))
+  stopped l others true false p q k e n = rw (← e, p, q, back) refl
+  stopped l others false b p q k e n = rw (← e, p, back) refl
 
-  pub going-broken : BrokenAt file at → ran (record { fault = 4; line = record { 0 = ln + 1 }; counts = c }) t ≡ whole
-  going-broken m = broken (m .text) (m .clean) ∙ ap (λ (l : List Line). runAll stepLine l ln (state ln (asCount c) t)) (sym (m .lines)) ∙ g .rest
-
-  foul : (l : Line) (others : List Line) → all allowed (l .text) ≡ false
-      → ran (record { fault = 3; line = record { 0 = ln + 1 }; counts = c }) t ≡ runAll stepLine (l ∷ others) ln (state ln (asCount c) t)
-  unfolding runAll stepLine
-  foul l others e = rw (e, back) refl
-
-  pub going-foul : FoulAt file at → ran (record { fault = 3; line = record { 0 = ln + 1 }; counts = c }) t ≡ whole
-  going-foul m = foul (m .line) (m .others) (m .foul) ∙ ap (λ (l : List Line). runAll stepLine l ln (state ln (asCount c) t)) (sym (m .lines)) ∙ g .rest
+  pub going-fault : {k : ℕ} → FaultAt file at k → (k ≡ 0 → ⊥) → ran (record { fault = k; line = record { 0 = ln + 1 }; counts = c }) t ≡ whole
+  going-fault {k} m n = stopped (m .line) (m .others) (all allowed (m .line .text)) (isEnded (m .line .end)) refl refl k (m .fault) n ∙ ap (λ (l : List Line). runAll stepLine l ln (state ln (asCount c) t)) (sym (m .lines)) ∙ g .rest
 
   -- a line with its terminator, and what was done with it
   module _ {from to after : ℕ} (m : WholeAt file at from to after) (r : Stepped) (x : Nine)

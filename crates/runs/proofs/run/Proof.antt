@@ -6,7 +6,7 @@ use lib.ListN.{length}
 use denote.Ref.{now}
 use Rattle.lines.proofs.Told.{told-done, told-broken, told-foul, told-whole}
 use Rattle.tables.specs.Lent.{nine}
-use Rattle.runs.proofs.Going.{Going, long-as, going-none, going-done, going-broken, going-foul, going-stop, going-next, going-skip}
+use Rattle.runs.proofs.Going.{Going, long-as, going-none, going-done, going-fault, going-stop, going-next, going-skip}
 use borrow.Author.Needs.{needs}
 use Rattle.runs.proofs.run.Statement.{statement}
 use Rattle.runs.proofs.run.Tie as tie
@@ -114,7 +114,7 @@ same-length-18 c = c .before .before .before .loop .inv .alike .lines
 returns-2 : tie.Need-returns-2 Inv-loop μ-loop
 returns-2 c =
     let l = c .before .before .before .loop in
-    (going-broken (l .inv) (told-broken _ _ (c .before .before .next-line .ensures) (c .enum-told2 .given .1)), l .inv .indexed, l .inv .room)
+    (going-fault (l .inv) (told-broken _ _ (c .before .before .next-line .ensures) (c .enum-told2 .given .1)) (λ z. omega (arith, z)), l .inv .indexed, l .inv .room)
 
 enum-told-3 : tie.Need-enum-told-3 Inv-loop μ-loop
 enum-told-3 c = search needs
@@ -155,7 +155,7 @@ same-length-27 c = c .before .before .before .loop .inv .alike .lines
 returns-3 : tie.Need-returns-3 Inv-loop μ-loop
 returns-3 c =
     let l = c .before .before .before .loop in
-    (going-foul (l .inv) (told-foul _ _ (c .before .before .next-line .ensures) (c .enum-told3 .given .1)), l .inv .indexed, l .inv .room)
+    (going-fault (l .inv) (told-foul _ _ (c .before .before .next-line .ensures) (c .enum-told3 .given .1)) (λ z. omega (arith, z)), l .inv .indexed, l .inv .room)
 
 enum-known-from : tie.Need-enum-known-from Inv-loop μ-loop
 enum-known-from c = search needs
