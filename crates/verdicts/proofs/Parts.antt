@@ -6,7 +6,7 @@ use Prim.Native.Nat.{ℕ, _*_}
 use lib.ListN.{getD}
 use Rattle.kit.specs.Decides.{to, orElse}
 use Rattle.law.specs.Sizes.{mostRounds}
-use Rattle.law.specs.Entries.{Law}
+use Rattle.law.specs.Entries.{Law, bye-or-game, mutual-pairing, fitting-results, one-U}
 use Rattle.law.specs.Refusals.{Refusal, refusal, fileFaultNumber, unlawful}
 use Rattle.join.specs.Grid.{firstFrom}
 use Rattle.join.specs.Store.{Nine}
@@ -14,7 +14,7 @@ use Rattle.join.specs.Check.{placeAt, roundAt, brokenCell, atPlayer, brokenBy}
 use Rattle.checks.specs.Laws.{four}
 use Rattle.checks.proofs.Kept.{first-in}
 use Rattle.verdicts.specs.declared.Verdict.{Verdict}
-use Rattle.verdicts.specs.Verdict.{asVerdict}
+use Rattle.verdicts.specs.Verdict.{asVerdict, unlawfulIn}
 
 pub nothing-found : (f : ℕ → Refusal) (o : Option ℕ) → o ≡ none → {r : Verdict} → r ≡ asVerdict none → r ≡ asVerdict (to f o)
 nothing-found f o q e = e ∙ sym (ap (λ (x : Option ℕ). asVerdict (to f x)) q)
@@ -45,3 +45,17 @@ broken-in law n R y e0 e1 e2 e3 e4 h =
     h
     ∙ rw (sym e0, sym e1, sym e2, sym e3, sym e4)
     (ap (λ (o : Option ℕ). asVerdict (to (atPlayer (fileFaultNumber (unlawful law)) (y .lines)) o)) (first-in law n R y (n * mostRounds)))
+
+-- nothing where no law is broken
+pub none-in : (n R : ℕ) (y : Nine) {starts opponents colours results : List ℕ} → y .starts ≡ starts → y .opponents ≡ opponents → y .colours ≡ colours → y .results ≡ results
+    → ((law : Law) → firstFrom (brokenCell law n R (four starts opponents colours results)) 0 (n * mostRounds) ≡ none) → {r : Verdict} → r ≡ asVerdict none
+    → r ≡ asVerdict (unlawfulIn n R y)
+none-in n R y e0 e1 e2 e3 h e = e ∙ ap asVerdict (sym whole)
+  where
+    none-by : (law : Law) → brokenBy law n R y ≡ none
+    none-by law =
+        let four-none : firstFrom (brokenCell law n R (four (y .starts) (y .opponents) (y .colours) (y .results))) 0 (n * mostRounds) ≡ none = rw (e0, e1, e2, e3) (h law) in
+        ap (to (atPlayer (fileFaultNumber (unlawful law)) (y .lines))) (sym (first-in law n R y (n * mostRounds)) ∙ four-none)
+
+    whole : unlawfulIn n R y ≡ none
+    whole = rw (none-by bye-or-game, none-by mutual-pairing, none-by fitting-results, none-by one-U) refl

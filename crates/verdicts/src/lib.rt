@@ -139,7 +139,7 @@ pub fn broken(
     at_turn(law_number(kind), lines, found)
 }
 
-// 12 to 15, in their order.
+// 12 to 15, in their order. Where one look finds every entry lawful there is nothing to search for.
 pub fn first_unlawful(
     starts: &[u32],
     opponents: &[u32],
@@ -154,6 +154,9 @@ pub fn first_unlawful(
     requires { ⌜ lineCells ≤ length (now lines) ⌝ }
     ensures { λ r. ⌜ ((y : Nine) → y .starts ≡ now (starts .entry) → y .opponents ≡ now (opponents .entry) → y .colours ≡ now (colours .entry) → y .results ≡ now (results .entry) → y .lines ≡ now (lines .entry) → r ≡ asVerdict (unlawfulIn n rounds y)) ⌝ }
 {
+    if glances::all_lawful(starts, opponents, colours, results, index, n, rounds) {
+        return nothing();
+    }
     let game = broken(
         LawKind::ByeOrGame,
         starts,

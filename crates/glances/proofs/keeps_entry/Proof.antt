@@ -1,0 +1,117 @@
+-- `glances::keeps_entry` meets its contract. Assumes nothing.
+use native.Mathlib.Omega.{arith}
+use borrow.Author.Needs.{needs}
+use borrow.Author.Tests.{not-false}
+use Rattle.kit.proofs.Bools.{clash}
+use Rattle.checks.proofs.Told.{told-player}
+use Rattle.glances.proofs.Entries.{bye-keeps, game-keeps}
+use Rattle.glances.proofs.keeps_entry.Statement.{statement}
+use Rattle.glances.proofs.keeps_entry.Tie as tie
+
+cell-of-requires : tie.Need-cell-of-requires
+cell-of-requires c κs = search needs
+
+mul-id : tie.Need-mul-id
+mul-id c = search needs
+
+shared-slice-read-id : tie.Need-shared-slice-read-id
+shared-slice-read-id c = search needs
+
+shared-slice-read-colour : tie.Need-shared-slice-read-colour
+shared-slice-read-colour c = search needs
+
+shared-slice-read-result : tie.Need-shared-slice-read-result
+shared-slice-read-result c = search needs
+
+place-of-requires : tie.Need-place-of-requires
+place-of-requires c κs = search needs
+
+enum-known-opponent : tie.Need-enum-known-opponent
+enum-known-opponent c = search needs
+
+enum-told : tie.Need-enum-told
+enum-told c = search needs
+
+is-bye-requires : tie.Need-is-bye-requires
+is-bye-requires c κs = search needs
+
+returns : tie.Need-returns
+returns c = λ t n x. bye-keeps n _ _ _ _ _ _ (c .before .before .before .before .before .before .before .cell-of .ensures .0) (c .before .before .before .place-of .ensures _ n (x .says) (x .low)) (c .before .enum-told .given .1) (c .is-bye .ensures) t
+
+own-cell-requires : tie.Need-own-cell-requires
+own-cell-requires c κs = search needs
+
+mul-start : tie.Need-mul-start
+mul-start c = search needs
+
+shared-slice-read-start : tie.Need-shared-slice-read-start
+shared-slice-read-start c = search needs
+
+returns-2 : tie.Need-returns-2
+returns-2 c = λ e. clash e
+
+cell-of-requires-2 : tie.Need-cell-of-requires-2
+cell-of-requires-2 c κs =
+    let start : tie.Start = c .before .before .before .before .before .before .before .before .before .before .before .before .before .before .before in
+    let x = start .pre .1 .1 .indexed in
+    let found = told-player _ _ _ (c .before .before .before .before .before .before .place-of .ensures _ _ (x .says) (x .low)) (c .before .before .before .before .opponent .given .1) in
+    (omega (arith, x .few, found), start .pre .0 .1, start .pre .0 .2)
+
+mul-if2 : tie.Need-mul-if2
+mul-if2 c = search needs
+
+shared-slice-read-if2 : tie.Need-shared-slice-read-if2
+shared-slice-read-if2 c = search needs
+
+returns-3 : tie.Need-returns-3
+returns-3 c = λ e. clash e
+
+shared-slice-read-are-opposite : tie.Need-shared-slice-read-are-opposite
+shared-slice-read-are-opposite c = search needs
+
+are-opposite-requires : tie.Need-are-opposite-requires
+are-opposite-requires c κs = search needs
+
+returns-4 : tie.Need-returns-4
+returns-4 c = λ e. clash e
+
+shared-slice-read-are-one-game : tie.Need-shared-slice-read-are-one-game
+shared-slice-read-are-one-game c = search needs
+
+are-one-game-requires : tie.Need-are-one-game-requires
+are-one-game-requires c κs = search needs
+
+returns-5 : tie.Need-returns-5
+returns-5 c =
+    λ t n x.
+    game-keeps n _ _ _ _ _ _ (c .before .before .before .before .before .before .before .before .before .before .before .before .before .before .before .before .before .before .cell-of .ensures .0) (c .before .before .before .before .before .before .before .before .before .before .before .before .before .before .place-of .ensures _ n (x .says) (x .low)) (c .before .before .before .before .before .before .before .before .before .before .before .before .opponent .given .1) (c .before .before .before .before .before .before .before .cell-of2 .ensures .0) (c .before .before .before .before .before .before .before .before .before .before .own-cell .ensures .0)
+    (c .before .before .before .before .before .before .before .before .if1 .left) (c .before .before .before .before .before .if2 .left) (c .before .before .before .are-opposite .ensures (not-false _ (c .before .before .if3 .left))) (c .are-one-game .ensures t)
+
+pub keeps-entry-spec : {M : Type 1} → statement M
+keeps-entry-spec =
+    tie.close
+    (tie.spec
+    cell-of-requires
+    mul-id
+    shared-slice-read-id
+    shared-slice-read-colour
+    shared-slice-read-result
+    place-of-requires
+    enum-known-opponent
+    enum-told
+    is-bye-requires
+    returns
+    own-cell-requires
+    mul-start
+    shared-slice-read-start
+    returns-2
+    cell-of-requires-2
+    mul-if2
+    shared-slice-read-if2
+    returns-3
+    shared-slice-read-are-opposite
+    are-opposite-requires
+    returns-4
+    shared-slice-read-are-one-game
+    are-one-game-requires
+    returns-5)

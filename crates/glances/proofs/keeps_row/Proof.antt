@@ -1,0 +1,61 @@
+-- `glances::keeps_row` meets its contract. The loop's invariant: the entries of the first j rounds keep the laws. Assumes nothing.
+use native.Mathlib.Omega.{arith}
+use mathlib.Core.List.{List}
+use Prim.Native.Nat.{ℕ, _+_, _-_}
+use borrow.Author.Tests.{not-false}
+use borrow.Author.Count.{below-more}
+use Rattle.kit.proofs.Bools.{clash}
+use Rattle.checks.specs.Laws.{four, Indexed}
+use Rattle.glances.specs.Glance.{KeepsEntry, KeepsRow}
+use borrow.Author.Needs.{needs}
+use Rattle.glances.proofs.keeps_row.Statement.{statement}
+use Rattle.glances.proofs.keeps_row.Tie as tie
+
+abbrev Inv-loop : tie.InvT-loop
+Inv-loop place starts opponents colours results index rounds j₀ j = (n : ℕ) → Indexed starts n index → KeepsRow n (four starts opponents colours results) (place .0) j
+
+abbrev μ-loop : tie.MeasureT-loop
+μ-loop place starts opponents colours results index rounds j₀ j = rounds - j
+
+loop-holds : tie.Need-loop-holds Inv-loop μ-loop
+loop-holds c = λ n x k l. absurd (omega arith)
+
+add-keeps-entry : tie.Need-add-keeps-entry Inv-loop μ-loop
+add-keeps-entry c = search needs
+
+keeps-entry-requires : tie.Need-keeps-entry-requires Inv-loop μ-loop
+keeps-entry-requires c κs = search needs
+
+returns : tie.Need-returns Inv-loop μ-loop
+returns c = λ e. clash e
+
+add-j : tie.Need-add-j Inv-loop μ-loop
+add-j c = search needs
+
+loop-less : tie.Need-loop-less Inv-loop μ-loop
+loop-less c = search needs
+
+loop-again : tie.Need-loop-again Inv-loop μ-loop
+loop-again c =
+    let a = c .before .before .before .before .before .before .before .before .args in
+    λ n x.
+    below-more (λ k. KeepsEntry n (four (a .starts .now) (a .opponents .now) (a .colours .now) (a .results .now)) (a .place .0) (k + 1)) (c .before .before .before .loop .j) (c .before .before .before .loop .inv n x)
+    (c .before .keeps-entry .ensures (not-false _ (c .if1 .left)) n x)
+
+returns-2 : tie.Need-returns-2 Inv-loop μ-loop
+returns-2 c = λ _ n x k l. c .before .loop .inv n x k (omega (arith, l, c .loop-test .left))
+
+pub keeps-row-spec : {M : Type 1} → statement M
+keeps-row-spec =
+    tie.close
+    (tie.spec
+    Inv-loop
+    μ-loop
+    loop-holds
+    add-keeps-entry
+    keeps-entry-requires
+    returns
+    add-j
+    loop-less
+    loop-again
+    returns-2)

@@ -1,0 +1,204 @@
+// One look at each entry: whether all of them keep the four laws. Most files do, and then no search for the first that does not is needed. Promised: a yes
+// is right; after a no the searches of checks tell what is wrong, and where.
+ghost use mathlib.Core.Path.{_≡_};
+ghost use mathlib.Core.Bool.{true, false};
+ghost use mathlib.Core.Option.{none};
+ghost use mathlib.Core.List.{List};
+ghost use Prim.Native.Nat.{ℕ, _+_, _*_, _≤_, _<_};
+ghost use lib.ListN.{length};
+ghost use Rattle.law.specs.Sizes.{mostPlayers, mostRounds};
+ghost use Rattle.law.specs.Entries.{Law};
+ghost use Rattle.law.specs.Tables.{entryCells};
+ghost use Rattle.join.specs.Grid.{firstFrom};
+ghost use Rattle.join.specs.Check.{brokenCell};
+ghost use Rattle.checks.specs.Laws.{four, Long, Indexed, IsIndex};
+ghost use Rattle.glances.specs.Glance.{Answered, Fits, Opposite, KeepsEntry, KeepsRow, KeepsRows, Noted, OnceU};
+use checks::Placed;
+use checks::START_CELLS;
+use tables::MOST_ROUNDS;
+use types::Place;
+use types::StartNumber;
+
+// The result that stands opposite a game's, or 0. Opposite `-` there may be `-` too.
+fn answer_to(result: u8) -> u8
+    ensures { λ r. ⌜ Answered result r ⌝ }
+{
+    match result {
+        b'1' => b'0',
+        b'0' => b'1',
+        b'=' => b'=',
+        b'W' => b'L',
+        b'L' => b'W',
+        b'D' => b'D',
+        b'+' => b'-',
+        b'-' => b'+',
+        _ => 0,
+    }
+}
+
+// Whether two results are those of one game.
+fn are_one_game(result: u8, theirs: u8) -> bool
+    ensures { λ r. ⌜ (r ≡ true → Fits result theirs) ⌝ }
+{
+    let answer = answer_to(result);
+    if answer == 0 {
+        return false;
+    }
+    if theirs == answer {
+        return true;
+    }
+    (result == b'-') & (theirs == b'-')
+}
+
+// Whether two colours are those of one game.
+fn are_opposite(colour: u8, theirs: u8) -> bool
+    ensures { λ r. ⌜ (r ≡ true → Opposite colour theirs) ⌝ }
+{
+    match colour {
+        b'w' => theirs == b'b',
+        b'b' => theirs == b'w',
+        _ => false,
+    }
+}
+
+// Whether an entry is a bye or a game, and a game mutual with results that fit.
+fn keeps_entry(
+    place: Place,
+    round: u32,
+    starts: &[u32],
+    opponents: &[u32],
+    colours: &[u8],
+    results: &[u8],
+    index: &[u16; START_CELLS],
+) -> bool
+    requires { ⌜ (place .0 < mostPlayers) × (1 ≤ round) × (round ≤ mostRounds) ⌝ }
+    requires { ⌜ Long (now starts) (now opponents) (now colours) (now results) × IsIndex (now index) ⌝ }
+    ensures { λ r. ⌜ (r ≡ true → (n : ℕ) → Indexed (now (starts .entry)) n (now (index .entry)) → KeepsEntry n (four (now (starts .entry)) (now (opponents .entry)) (now (colours .entry)) (now (results .entry))) (place .0) round) ⌝ }
+{
+    let i = tables::cell_of(place, round);
+    let id = opponents[i];
+    let colour = colours[i];
+    let result = results[i];
+    let opponent = checks::place_of(index, StartNumber(id));
+    let Placed::At(other) = opponent else {
+        return checks::is_bye(id, colour, result);
+    };
+    let own = tables::own_cell(place);
+    let start = starts[own];
+    if id == start {
+        return false;
+    }
+    let j = tables::cell_of(other, round);
+    if opponents[j] != start {
+        return false;
+    }
+    if !are_opposite(colour, colours[j]) {
+        return false;
+    }
+    are_one_game(result, results[j])
+}
+
+// Whether a player's entries do, up to a round.
+fn keeps_row(
+    place: Place,
+    starts: &[u32],
+    opponents: &[u32],
+    colours: &[u8],
+    results: &[u8],
+    index: &[u16; START_CELLS],
+    rounds: u32,
+) -> bool
+    requires { ⌜ (place .0 < mostPlayers) × (rounds ≤ mostRounds) ⌝ }
+    requires { ⌜ Long (now starts) (now opponents) (now colours) (now results) × IsIndex (now index) ⌝ }
+    ensures { λ r. ⌜ (r ≡ true → (n : ℕ) → Indexed (now (starts .entry)) n (now (index .entry)) → KeepsRow n (four (now (starts .entry)) (now (opponents .entry)) (now (colours .entry)) (now (results .entry))) (place .0) rounds) ⌝ }
+{
+    let mut j = 0;
+    while j < rounds {
+        if !keeps_entry(place, j + 1, starts, opponents, colours, results, index) {
+            return false;
+        }
+        j += 1;
+    }
+    true
+}
+
+// Whether those of n players do.
+fn keeps_rows(
+    starts: &[u32],
+    opponents: &[u32],
+    colours: &[u8],
+    results: &[u8],
+    index: &[u16; START_CELLS],
+    n: usize,
+    rounds: u32,
+) -> bool
+    requires { ⌜ rounds ≤ mostRounds ⌝ }
+    requires { ⌜ Long (now starts) (now opponents) (now colours) (now results) × Indexed (now starts) n (now index) ⌝ }
+    ensures { λ r. ⌜ (r ≡ true → KeepsRows n (four (now (starts .entry)) (now (opponents .entry)) (now (colours .entry)) (now (results .entry))) n rounds) ⌝ }
+{
+    let mut p = 0;
+    while p < n {
+        let place = Place(p as u32);
+        if !keeps_row(place, starts, opponents, colours, results, index, rounds) {
+            return false;
+        }
+        p += 1;
+    }
+    true
+}
+
+// Notes the rounds in which a player has U. Whether an earlier player had it in one of them: no exit, so that many rounds are compared at a time.
+fn note_u(results: &[u8], place: Place, seen: &mut [bool; MOST_ROUNDS]) -> bool
+    requires { ⌜ (place .0 < mostPlayers) × (entryCells ≤ length (now results)) × (length (now seen) ≡ mostRounds) ⌝ }
+    ensures { λ r. ⌜ Noted (now (results .entry)) (place .0) (now (seen .entry)) (now (seen .exit)) r ⌝ }
+{
+    let mut again = false;
+    let mut j = 0;
+    while j < MOST_ROUNDS {
+        let i = tables::cell_of(place, j as u32 + 1);
+        let here = results[i] == b'U';
+        let earlier = seen[j];
+        again = again | (here & earlier);
+        seen[j] = earlier | here;
+        j += 1;
+    }
+    again
+}
+
+// Whether no two of n players have U in one round.
+fn keeps_one_u(results: &[u8], n: usize) -> bool
+    requires { ⌜ (n ≤ mostPlayers) × (entryCells ≤ length (now results)) ⌝ }
+    ensures { λ r. ⌜ (r ≡ true → OnceU (now (results .entry)) n) ⌝ }
+{
+    let mut seen = [false; MOST_ROUNDS];
+    let mut p = 0;
+    while p < n {
+        if note_u(results, Place(p as u32), &mut seen) {
+            return false;
+        }
+        p += 1;
+    }
+    true
+}
+
+// Whether every entry of n players, up to a round, keeps the four laws.
+pub fn all_lawful(
+    starts: &[u32],
+    opponents: &[u32],
+    colours: &[u8],
+    results: &[u8],
+    index: &[u16; START_CELLS],
+    n: usize,
+    rounds: u32,
+) -> bool
+    requires { ⌜ Long (now starts) (now opponents) (now colours) (now results) × Indexed (now starts) n (now index) ⌝ }
+    ensures { λ r. ⌜ (r ≡ true → (law : Law) → firstFrom (brokenCell law n rounds (four (now (starts .entry)) (now (opponents .entry)) (now (colours .entry)) (now (results .entry)))) 0 (n * mostRounds) ≡ none) ⌝ }
+{
+    if MOST_ROUNDS < rounds as usize {
+        return false;
+    }
+    if !keeps_rows(starts, opponents, colours, results, index, n, rounds) {
+        return false;
+    }
+    keeps_one_u(results, n)
+}
