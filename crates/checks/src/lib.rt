@@ -344,23 +344,23 @@ pub enum Placed {
 }
 
 // One player more in the index.
-pub fn index_start(index: &mut [u16; START_CELLS], start: StartNumber, place: Place)
+pub fn index_start(index: &mut [u8; START_CELLS], start: StartNumber, place: Place)
     requires { ⌜ (start .0 ≤ mostStart) × (place .0 < mostPlayers) ⌝ }
     ensures { λ _. ⌜ now (index .exit) ≡ set (now (index .entry)) (start .0) (place .0 + 1) ⌝ }
 {
     let i = start.0 as usize;
-    index[i] = (place.0 + 1) as u16;
+    index[i] = (place.0 + 1) as u8;
 }
 
 // What is read of a lent array brings no bound with it; a parameter does.
-fn wide(x: u16) -> u32
+fn wide(x: u8) -> u32
     ensures { λ r. ⌜ r ≡ x ⌝ }
 {
     x as u32
 }
 
 // The player with a start number, by the index. No player has a number that the index has no cell for.
-pub fn place_of(index: &[u16; START_CELLS], start: StartNumber) -> Placed
+pub fn place_of(index: &[u8; START_CELLS], start: StartNumber) -> Placed
     ensures { λ r. ⌜ ((starts : List ℕ) (n : ℕ) → IndexOf starts n (now (index .entry)) → LowStarts starts n → r ≡ asPlaced (placeOf starts n (start .0))) ⌝ }
 {
     let id = start.0;
@@ -422,7 +422,7 @@ fn keeps_bye_or_game(
     opponents: &[u32],
     colours: &[u8],
     results: &[u8],
-    index: &[u16; START_CELLS],
+    index: &[u8; START_CELLS],
 ) -> bool
     requires { ⌜ (place .0 < mostPlayers) × (1 ≤ round) × (round ≤ mostRounds) ⌝ }
     requires { ⌜ Long (now starts) (now opponents) (now colours) (now results) ⌝ }
@@ -447,7 +447,7 @@ fn keeps_mutual(
     starts: &[u32],
     opponents: &[u32],
     colours: &[u8],
-    index: &[u16; START_CELLS],
+    index: &[u8; START_CELLS],
 ) -> bool
     requires { ⌜ (place .0 < mostPlayers) × (1 ≤ round) × (round ≤ mostRounds) ⌝ }
     requires { ⌜ (mostPlayers ≤ length (now starts)) × (entryCells ≤ length (now opponents)) × (entryCells ≤ length (now colours)) × IsIndex (now index) ⌝ }
@@ -470,7 +470,7 @@ fn keeps_fitting(
     round: u32,
     opponents: &[u32],
     results: &[u8],
-    index: &[u16; START_CELLS],
+    index: &[u8; START_CELLS],
 ) -> bool
     requires { ⌜ (place .0 < mostPlayers) × (1 ≤ round) × (round ≤ mostRounds) ⌝ }
     requires { ⌜ (entryCells ≤ length (now opponents)) × (entryCells ≤ length (now results)) × IsIndex (now index) ⌝ }
@@ -495,7 +495,7 @@ fn keeps_at(
     opponents: &[u32],
     colours: &[u8],
     results: &[u8],
-    index: &[u16; START_CELLS],
+    index: &[u8; START_CELLS],
 ) -> bool
     requires { ⌜ (kind ≡ LawKind.OneU → ⊥) ⌝ }
     requires { ⌜ (place .0 < mostPlayers) × (1 ≤ round) × (round ≤ mostRounds) ⌝ }
@@ -521,7 +521,7 @@ fn is_broken(
     opponents: &[u32],
     colours: &[u8],
     results: &[u8],
-    index: &[u16; START_CELLS],
+    index: &[u8; START_CELLS],
 ) -> bool
     requires { ⌜ (kind ≡ LawKind.OneU → ⊥) ⌝ }
     requires { ⌜ k < entryCells ⌝ }
@@ -552,7 +552,7 @@ fn first_unkept(
     opponents: &[u32],
     colours: &[u8],
     results: &[u8],
-    index: &[u16; START_CELLS],
+    index: &[u8; START_CELLS],
     n: usize,
     rounds: u32,
 ) -> Found
@@ -610,7 +610,7 @@ pub fn first_broken(
     opponents: &[u32],
     colours: &[u8],
     results: &[u8],
-    index: &[u16; START_CELLS],
+    index: &[u8; START_CELLS],
     n: usize,
     rounds: u32,
 ) -> Found

@@ -69,7 +69,7 @@ fn keeps_entry(
     opponents: &[u32],
     colours: &[u8],
     results: &[u8],
-    index: &[u16; START_CELLS],
+    index: &[u8; START_CELLS],
 ) -> bool
     requires { ⌜ (place .0 < mostPlayers) × (1 ≤ round) × (round ≤ mostRounds) ⌝ }
     requires { ⌜ Long (now starts) (now opponents) (now colours) (now results) × IsIndex (now index) ⌝ }
@@ -105,7 +105,7 @@ fn keeps_row(
     opponents: &[u32],
     colours: &[u8],
     results: &[u8],
-    index: &[u16; START_CELLS],
+    index: &[u8; START_CELLS],
     rounds: u32,
 ) -> bool
     requires { ⌜ (place .0 < mostPlayers) × (rounds ≤ mostRounds) ⌝ }
@@ -128,7 +128,7 @@ fn keeps_rows(
     opponents: &[u32],
     colours: &[u8],
     results: &[u8],
-    index: &[u16; START_CELLS],
+    index: &[u8; START_CELLS],
     n: usize,
     rounds: u32,
 ) -> bool
@@ -187,7 +187,7 @@ pub fn all_lawful(
     opponents: &[u32],
     colours: &[u8],
     results: &[u8],
-    index: &[u16; START_CELLS],
+    index: &[u8; START_CELLS],
     n: usize,
     rounds: u32,
 ) -> bool

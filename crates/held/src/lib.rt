@@ -197,7 +197,7 @@ pub fn kept_are(kept: &[u8], n: usize) -> bool
 }
 
 // Whether the first n start numbers differ. The index comes in as that of no player; if they do, it is theirs.
-pub fn starts_differ(starts: &[u32], n: usize, index: &mut [u16; START_CELLS]) -> bool
+pub fn starts_differ(starts: &[u32], n: usize, index: &mut [u8; START_CELLS]) -> bool
     requires { ⌜ (n ≤ mostPlayers) × (n ≤ length (now starts)) × ((p : ℕ) → p < n → isStart (getD (now starts) p 0) ≡ true) × IndexOf (now starts) 0 (now index) ⌝ }
     ensures { λ r. ⌜ Told ((p : ℕ) → p < n → placeOf (now (starts .entry)) p (getD (now (starts .entry)) p 0) ≡ none) r × (r ≡ true → Indexed (now (starts .entry)) n (now (index .exit))) ⌝ }
 {

@@ -32,7 +32,7 @@ fn judge(
     c: Counts,
     rounds: u32,
     past: Verdict,
-    index: &[u16; START_CELLS],
+    index: &[u8; START_CELLS],
     starts: &[u32],
     points: &[u32],
     opponents: &[u32],
@@ -97,7 +97,7 @@ pub struct Finished {
 // After the last line: the number of rounds, 11, the closing pass, and the other checks.
 pub fn finish(
     c: Counts,
-    index: &[u16; START_CELLS],
+    index: &[u8; START_CELLS],
     starts: &[u32],
     points: &[u32],
     opponents: &[u32],

@@ -147,7 +147,7 @@ fn keeps(
     opponents: &[u32],
     colours: &[u8],
     results: &[u8],
-    index: &[u16; START_CELLS],
+    index: &[u8; START_CELLS],
     n: usize,
     rounds: u32,
 ) -> bool
@@ -163,7 +163,7 @@ fn keeps_all(
     opponents: &[u32],
     colours: &[u8],
     results: &[u8],
-    index: &[u16; START_CELLS],
+    index: &[u8; START_CELLS],
     n: usize,
     rounds: u32,
 ) -> bool
@@ -207,7 +207,7 @@ fn together(
     requires { ⌜ Long (now starts) (now opponents) (now colours) (now results) × (mostPlayers ≤ length (now points)) ⌝ }
     ensures { λ r. ⌜ Told (Together n rounds values (now (starts .entry)) (now (points .entry)) (now (opponents .entry)) (now (colours .entry)) (now (results .entry))) r ⌝ }
 {
-    let mut index = [0u16; START_CELLS];
+    let mut index = [0u8; START_CELLS];
     if !held::starts_differ(starts, n, &mut index) {
         return false;
     }

@@ -119,7 +119,7 @@ pub fn read_lines(
     requires { ⌜ Zeroed (lent starts points ranks kept opponents colours results text lines) (lent starts points ranks kept opponents colours results text lines) ⌝ }
     ensures { λ r. ⌜ LinesRead (now (file .entry)) (before starts points ranks kept opponents colours results text lines) r (after starts points ranks kept opponents colours results text lines) ⌝ }
 {
-    let mut index = [0u16; START_CELLS];
+    let mut index = [0u8; START_CELLS];
     let none = no_counts();
     let ran = runs::run(
         file,

@@ -129,7 +129,7 @@ pub fn step_player(
     line: &[u8],
     number: LineNumber,
     c: Counts,
-    index: &mut [u16; START_CELLS],
+    index: &mut [u8; START_CELLS],
     starts: &mut [u32],
     points: &mut [u32],
     ranks: &mut [u32],

@@ -30,7 +30,7 @@ fn step(
     line: &[u8],
     number: LineNumber,
     c: Counts,
-    index: &mut [u16; START_CELLS],
+    index: &mut [u8; START_CELLS],
     starts: &mut [u32],
     points: &mut [u32],
     ranks: &mut [u32],
@@ -104,7 +104,7 @@ fn is_skipped(line: &[u8]) -> bool
 pub fn run(
     file: &[u8],
     none: Counts,
-    index: &mut [u16; START_CELLS],
+    index: &mut [u8; START_CELLS],
     starts: &mut [u32],
     points: &mut [u32],
     ranks: &mut [u32],

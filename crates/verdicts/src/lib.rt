@@ -127,7 +127,7 @@ pub fn broken(
     colours: &[u8],
     results: &[u8],
     lines: &[u32],
-    index: &[u16; START_CELLS],
+    index: &[u8; START_CELLS],
     n: usize,
     rounds: u32,
 ) -> Verdict
@@ -146,7 +146,7 @@ pub fn first_unlawful(
     colours: &[u8],
     results: &[u8],
     lines: &[u32],
-    index: &[u16; START_CELLS],
+    index: &[u8; START_CELLS],
     n: usize,
     rounds: u32,
 ) -> Verdict

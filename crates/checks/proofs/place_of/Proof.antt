@@ -11,9 +11,6 @@ returns c = λ starts n x low. above starts n _ low (c .if1 .taken)
 cast-i : tie.Need-cast-i
 cast-i c = search needs
 
-mul-wide : tie.Need-mul-wide
-mul-wide c = search needs
-
 element-copy-out-wide : tie.Need-element-copy-out-wide
 element-copy-out-wide c = search needs
 
@@ -23,8 +20,8 @@ wide-requires c κs = search needs
 returns-2 : tie.Need-returns-2
 returns-2 c = λ starts n x low. cell-none starts n _ _ x (c .before .before .before .if1 .left) (sym (c .before .wide .ensures) ∙ c .if2 .taken)
 
-sub-t11 : tie.Need-sub-t11
-sub-t11 c = search needs
+sub-t10 : tie.Need-sub-t10
+sub-t10 c = search needs
 
 returns-3 : tie.Need-returns-3
 returns-3 c = λ starts n x low. cell-some starts n _ _ x (c .before .before .before .if1 .left) _ (c .before .wide .ensures) (c .if2 .left)
@@ -32,4 +29,4 @@ returns-3 c = λ starts n x low. cell-some starts n _ _ x (c .before .before .be
 pub place-of-spec : {M : Type 1} → statement M
 place-of-spec =
     tie.close
-    (tie.spec returns cast-i mul-wide element-copy-out-wide wide-requires returns-2 sub-t11 returns-3)
+    (tie.spec returns cast-i element-copy-out-wide wide-requires returns-2 sub-t10 returns-3)
