@@ -14,14 +14,11 @@ abbrev μ-loop : tie.MeasureT-loop
 loop-holds : tie.Need-loop-holds Inv-loop μ-loop
 loop-holds c = search needs
 
-shared-slice-read-file : tie.Need-shared-slice-read-file Inv-loop μ-loop
-shared-slice-read-file c = search needs
+shared-slice-read-put-many : tie.Need-shared-slice-read-put-many Inv-loop μ-loop
+shared-slice-read-put-many c = search needs
 
-element-write-file : tie.Need-element-write-file Inv-loop μ-loop
-element-write-file c = search needs
-
-add-end : tie.Need-add-end Inv-loop μ-loop
-add-end c = search needs
+put-many-requires : tie.Need-put-many-requires Inv-loop μ-loop
+put-many-requires c κs = search needs
 
 add-i : tie.Need-add-i Inv-loop μ-loop
 add-i c = search needs
@@ -42,9 +39,8 @@ put-spec =
     Inv-loop
     μ-loop
     loop-holds
-    shared-slice-read-file
-    element-write-file
-    add-end
+    shared-slice-read-put-many
+    put-many-requires
     add-i
     loop-less
     loop-again
