@@ -3,13 +3,14 @@
 //
 //     =            a new file, empty
 //     TEXT         a line: the text, and CR
-//     *N W TEXT    N lines: the text, blanks up to column W, and CR; `%` in the text stands for the line's count in four digits
+//     *N W TEXT    N lines: the text, blanks up to column W, and CR
 //     +N B         the byte of value B, N times
 //     -            the last byte is taken away
 //     /            the file ends here: what comes next is another text for its reading
 //     ;            a remark
 //
-// What has no room is left out, so that few functions here ask anything of their caller.
+// In a text `%` stands for the line's count in four digits: 0001 in the first of N lines, 0002 in the second. What has no room is left out, so that few
+// functions here ask anything of their caller.
 mod prints;
 
 pub use prints::MARK;
@@ -109,18 +110,7 @@ pub fn low_byte(value: u32) -> u8 {
     (value % 256) as u8
 }
 
-// Some bytes, from a place on. Answers where they end.
-fn put(file: &mut [u8; ROOM], at: usize, bytes: &[u8]) -> usize {
-    let mut end = at;
-    let mut i = 0;
-    while i < bytes.len() {
-        end = put_many(file, end, bytes[i], 1);
-        i += 1;
-    }
-    end
-}
-
-// The same byte, so many times.
+// A byte so many times, from a place on. Answers where they end.
 fn put_many(file: &mut [u8; ROOM], at: usize, byte: u8, times: usize) -> usize {
     let mut end = at;
     let mut i = 0;
@@ -134,24 +124,26 @@ fn put_many(file: &mut [u8; ROOM], at: usize, byte: u8, times: usize) -> usize {
     end
 }
 
+// The last digit of a number.
+fn digit(n: u32) -> u8 {
+    b'0' + (n % 10) as u8
+}
+
 // The last four digits of a number.
-fn four(n: u32) -> [u8; 4] {
-    [
-        b'0' + (n / 1000 % 10) as u8,
-        b'0' + (n / 100 % 10) as u8,
-        b'0' + (n / 10 % 10) as u8,
-        b'0' + (n % 10) as u8,
-    ]
+fn put_count(file: &mut [u8; ROOM], at: usize, n: u32) -> usize {
+    let of_thousands = put_many(file, at, digit(n / 1000), 1);
+    let of_hundreds = put_many(file, of_thousands, digit(n / 100), 1);
+    let of_tens = put_many(file, of_hundreds, digit(n / 10), 1);
+    put_many(file, of_tens, digit(n), 1)
 }
 
 // A text in which `%` stands for a count.
 fn put_text(file: &mut [u8; ROOM], at: usize, text: &[u8], count: u32) -> usize {
-    let digits = four(count);
     let mut end = at;
     let mut i = 0;
     while i < text.len() {
         if text[i] == b'%' {
-            end = put(file, end, &digits);
+            end = put_count(file, end, count);
         } else {
             end = put_many(file, end, text[i], 1);
         }
@@ -262,6 +254,6 @@ pub fn put_row(file: &mut [u8; ROOM], d: Draft, row: &[u8]) -> Draft {
         b'-' => shorter(d),
         b'+' => ended(d, put_run(file, at, row)),
         b'*' => ended(d, put_counted(file, at, row)),
-        _ => ended(d, put_line(file, at, 0, row, 0)),
+        _ => ended(d, put_line(file, at, 0, row, 1)),
     }
 }

@@ -6,13 +6,10 @@ use Rattle.drafts.proofs.put_text.Statement.{statement}
 use Rattle.drafts.proofs.put_text.Tie as tie
 
 abbrev Inv-loop : tie.InvT-loop
-Inv-loop file₀ at text count digits end₀ i₀ file end i = i ≤ length text
+Inv-loop file₀ at text count end₀ i₀ file end i = i ≤ length text
 
 abbrev μ-loop : tie.MeasureT-loop
-μ-loop file₀ at text count digits end₀ i₀ file end i = length text - i
-
-four-requires : tie.Need-four-requires Inv-loop μ-loop
-four-requires c κs = search needs
+μ-loop file₀ at text count end₀ i₀ file end i = length text - i
 
 loop-holds : tie.Need-loop-holds Inv-loop μ-loop
 loop-holds c = search needs
@@ -20,11 +17,8 @@ loop-holds c = search needs
 shared-slice-read-if1 : tie.Need-shared-slice-read-if1 Inv-loop μ-loop
 shared-slice-read-if1 c = search needs
 
-slice-aggregate-put : tie.Need-slice-aggregate-put Inv-loop μ-loop
-slice-aggregate-put c = search needs
-
-put-requires : tie.Need-put-requires Inv-loop μ-loop
-put-requires c κs = search needs
+put-count-requires : tie.Need-put-count-requires Inv-loop μ-loop
+put-count-requires c κs = search needs
 
 shared-slice-read-put-many : tie.Need-shared-slice-read-put-many Inv-loop μ-loop
 shared-slice-read-put-many c = search needs
@@ -50,11 +44,9 @@ put-text-spec =
     (tie.spec
     Inv-loop
     μ-loop
-    four-requires
     loop-holds
     shared-slice-read-if1
-    slice-aggregate-put
-    put-requires
+    put-count-requires
     shared-slice-read-put-many
     put-many-requires
     add-i
