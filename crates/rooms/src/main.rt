@@ -1,19 +1,35 @@
 // Reads into tables of other lengths than the listed ones. A table one cell short: refusal 1, and no cell of any table changed. Longer tables: the cells
 // past the listed sizes stay, after an acceptance and after refusals. Of each reading: the answer's parts, and of each table how many cells hold zero and how
-// many hold the mark that all held before.
+// many hold the mark that all held before. Rows of standard input make files, as `drafts` says; this program's own row is
+//
+//     !SHORT NAME  a reading of the file that was made; SHORT is the table that is a cell short, 0 where all are longer, 11 where all are as listed
 ghost use Prim.Native.Nat.{_≤_};
+use drafts::Draft;
+use drafts::MARK;
 use drafts::ROOM;
+use libc::STDIN_FILENO;
 use libc::STDOUT_FILENO;
 use lines_read::CoreAnswer;
-
-// What every cell holds before a reading. No cell that a reading wrote holds it.
-const MARK: u8 = 7;
 
 // The cells past each listed size.
 const MORE: usize = 3;
 
+const PLAYERS: usize = listed::PLAYERS + MORE;
+
+const KEPT: usize = listed::KEPT + MORE;
+
+const ENTRIES: usize = listed::ENTRIES + MORE;
+
+const TEXT: usize = listed::TEXT + MORE;
+
+const LINES: usize = listed::LINES + MORE;
+
+const RECORDS: usize = listed::ACCELERATIONS + MORE;
+
+const MARK_NUMBER: u32 = MARK as u32;
+
 // How much is lent of a table with MORE cells too many: all where no table is to be short; otherwise what is listed, and of the short one a cell less.
-fn part(cells: usize, table: usize, short: usize) -> usize
+fn part(cells: usize, table: u32, short: u32) -> usize
     ensures { λ r. ⌜ r ≤ cells ⌝ }
 {
     if short == 0 {
@@ -28,32 +44,75 @@ fn part(cells: usize, table: usize, short: usize) -> usize
     cells - MORE
 }
 
-// A reading of the first n bytes into parts of tables. The tables count from 1 in the order of the parameters, the acceleration records as the tenth.
-fn read_parts(
-    file: &[u8],
-    n: usize,
-    short: usize,
-    starts: &mut [u32],
-    points: &mut [u32],
-    ranks: &mut [u32],
-    kept: &mut [u8],
-    opponents: &mut [u32],
-    colours: &mut [u8],
-    results: &mut [u8],
-    text: &mut [u8],
-    lines: &mut [u32],
-) -> CoreAnswer {
-    let of_starts = part(starts.len(), 1, short);
-    let of_points = part(points.len(), 2, short);
-    let of_ranks = part(ranks.len(), 3, short);
-    let of_kept = part(kept.len(), 4, short);
-    let of_opponents = part(opponents.len(), 5, short);
-    let of_colours = part(colours.len(), 6, short);
-    let of_results = part(results.len(), 7, short);
-    let of_text = part(text.len(), 8, short);
-    let of_lines = part(lines.len(), 9, short);
-    let end = drafts::within(n, file.len());
-    reader::read_core(
+// Of each table, in the order of the reader's parameters.
+fn print_cells(
+    starts: &[u32; PLAYERS],
+    points: &[u32; PLAYERS],
+    ranks: &[u32; PLAYERS],
+    kept: &[u8; KEPT],
+    opponents: &[u32; ENTRIES],
+    colours: &[u8; ENTRIES],
+    results: &[u8; ENTRIES],
+    text: &[u8; TEXT],
+    lines: &[u32; LINES],
+) {
+    io::write_all(STDOUT_FILENO, b"cells");
+    drafts::print_numbers(starts);
+    drafts::print_numbers(points);
+    drafts::print_numbers(ranks);
+    drafts::print_bytes(kept);
+    drafts::print_numbers(opponents);
+    drafts::print_bytes(colours);
+    drafts::print_bytes(results);
+    drafts::print_bytes(text);
+    drafts::print_numbers(lines);
+    io::write_all(STDOUT_FILENO, b"\n");
+}
+
+fn print_part(n: u32) {
+    drafts::print_field(b" ", n as u64);
+}
+
+// Number, line and round; players, rounds, acceleration records and bytes of text; and how many records are to be filled in.
+fn print_answer(core: CoreAnswer) {
+    let answer = core.answer;
+    let line = answer.line;
+    io::write_all(STDOUT_FILENO, b"answer");
+    print_part(answer.number);
+    print_part(line.0);
+    print_part(answer.round);
+    print_part(answer.players);
+    print_part(answer.rounds);
+    print_part(answer.accelerations);
+    drafts::print_field(b" ", answer.text as u64);
+    drafts::print_field(b" ", core.fill as u64);
+    io::write_all(STDOUT_FILENO, b"\n");
+}
+
+// A reading into tables of which one may be short, and what it left. The tables count from 1 in the order of the reader's parameters, the acceleration
+// records as the tenth.
+fn read_case(file: &[u8], d: Draft, short: u32) {
+    let end = drafts::file_end(d, file);
+    let of_starts = part(PLAYERS, 1, short);
+    let of_points = part(PLAYERS, 2, short);
+    let of_ranks = part(PLAYERS, 3, short);
+    let of_kept = part(KEPT, 4, short);
+    let of_opponents = part(ENTRIES, 5, short);
+    let of_colours = part(ENTRIES, 6, short);
+    let of_results = part(ENTRIES, 7, short);
+    let of_text = part(TEXT, 8, short);
+    let of_lines = part(LINES, 9, short);
+    let records = part(RECORDS, 10, short);
+    let mut starts = [MARK_NUMBER; PLAYERS];
+    let mut points = [MARK_NUMBER; PLAYERS];
+    let mut ranks = [MARK_NUMBER; PLAYERS];
+    let mut kept = [MARK; KEPT];
+    let mut opponents = [MARK_NUMBER; ENTRIES];
+    let mut colours = [MARK; ENTRIES];
+    let mut results = [MARK; ENTRIES];
+    let mut text = [MARK; TEXT];
+    let mut lines = [MARK_NUMBER; LINES];
+    let core = reader::read_core(
         &file[..end],
         &mut starts[..of_starts],
         &mut points[..of_points],
@@ -64,104 +123,8 @@ fn read_parts(
         &mut results[..of_results],
         &mut text[..of_text],
         &mut lines[..of_lines],
-        part(32 + MORE, 10, short),
-    )
-}
-
-// How many cells hold a value.
-fn count_numbers(t: &[u32], value: u8) -> u64 {
-    let mut n: u64 = 0;
-    let mut i = 0;
-    while i < t.len() {
-        n += drafts::one_if(t[i] == value as u32);
-        i += 1;
-    }
-    n
-}
-
-fn print_field(n: u64) {
-    io::write_all(STDOUT_FILENO, b" ");
-    io::print_decimal(STDOUT_FILENO, n);
-}
-
-// Of one table: the cells that hold zero, and those that hold the mark.
-fn print_numbers(t: &[u32]) {
-    print_field(count_numbers(t, 0));
-    print_field(count_numbers(t, MARK));
-}
-
-fn print_bytes(t: &[u8]) {
-    print_field(drafts::count_bytes(t, 0));
-    print_field(drafts::count_bytes(t, MARK));
-}
-
-// Of each table, in the order of the parameters.
-fn print_cells(
-    starts: &[u32],
-    points: &[u32],
-    ranks: &[u32],
-    kept: &[u8],
-    opponents: &[u32],
-    colours: &[u8],
-    results: &[u8],
-    text: &[u8],
-    lines: &[u32],
-) {
-    io::write_all(STDOUT_FILENO, b"cells");
-    print_numbers(starts);
-    print_numbers(points);
-    print_numbers(ranks);
-    print_bytes(kept);
-    print_numbers(opponents);
-    print_bytes(colours);
-    print_bytes(results);
-    print_bytes(text);
-    print_numbers(lines);
-    io::write_all(STDOUT_FILENO, b"\n");
-}
-
-// Number, line and round; players, rounds, acceleration records and bytes of text; and how many records are to be filled in.
-fn print_answer(core: CoreAnswer) {
-    let answer = core.answer;
-    let line = answer.line;
-    io::write_all(STDOUT_FILENO, b"answer");
-    print_field(answer.number as u64);
-    print_field(line.0 as u64);
-    print_field(answer.round as u64);
-    print_field(answer.players as u64);
-    print_field(answer.rounds as u64);
-    print_field(answer.accelerations as u64);
-    print_field(answer.text as u64);
-    print_field(core.fill as u64);
-    io::write_all(STDOUT_FILENO, b"\n");
-}
-
-// A reading into tables of which one may be short, and what it left.
-fn read_case(name: &[u8], file: &[u8; ROOM], n: usize, short: usize) {
-    let mut starts = [7u32; 203];
-    let mut points = [7u32; 203];
-    let mut ranks = [7u32; 203];
-    let mut kept = [7u8; 14003];
-    let mut opponents = [7u32; 4003];
-    let mut colours = [7u8; 4003];
-    let mut results = [7u8; 4003];
-    let mut text = [7u8; 2051];
-    let mut lines = [7u32; 235];
-    let core = read_parts(
-        file,
-        n,
-        short,
-        &mut starts,
-        &mut points,
-        &mut ranks,
-        &mut kept,
-        &mut opponents,
-        &mut colours,
-        &mut results,
-        &mut text,
-        &mut lines,
+        records,
     );
-    drafts::print_name(name);
     print_answer(core);
     print_cells(
         &starts,
@@ -176,48 +139,34 @@ fn read_case(name: &[u8], file: &[u8; ROOM], n: usize, short: usize) {
     );
 }
 
-fn read_short(file: &[u8; ROOM], n: usize) {
-    read_case(b"start numbers one short", file, n, 1);
-    read_case(b"points one short", file, n, 2);
-    read_case(b"ranks one short", file, n, 3);
-    read_case(b"kept columns one short", file, n, 4);
-    read_case(b"opponents one short", file, n, 5);
-    read_case(b"colours one short", file, n, 6);
-    read_case(b"results one short", file, n, 7);
-    read_case(b"text one short", file, n, 8);
-    read_case(b"line numbers one short", file, n, 9);
-    read_case(b"acceleration records one short", file, n, 10);
+// What a row does: the draft after it.
+fn take_row(file: &mut [u8; ROOM], d: Draft, row: &[u8]) -> Draft {
+    if drafts::first_of(row) != b'!' {
+        return drafts::put_row(file, d, row);
+    }
+    let short = drafts::number_at(row, 1);
+    drafts::print_rest(row, short.end);
+    io::write_all(STDOUT_FILENO, b"\n");
+    read_case(file, d, short.value);
+    d
 }
 
-fn read_long(file: &[u8; ROOM], n: usize) {
-    read_case(b"longer, accepted", file, n, 0);
-    read_case(b"longer, empty file", file, 0, 0);
-    read_case(b"longer, file too large", file, ROOM, 0);
-    if 0 < n {
-        read_case(b"longer, last CR dropped", file, n - 1, 0);
+fn take_rows(rows: &[u8]) {
+    let mut file = [0u8; ROOM];
+    let mut draft = drafts::nothing();
+    let mut from = 0;
+    while from < rows.len() {
+        let end = drafts::end_of(rows, from, b'\n');
+        draft = take_row(&mut file, draft, &rows[from..end]);
+        if end == rows.len() {
+            return;
+        }
+        from = end + 1;
     }
 }
 
-// T with points that are not the sum.
-fn read_wrong_sum() {
-    let mut file = [0u8; ROOM];
-    let n = drafts::put_pair(
-        &mut file,
-        b"012 Cup\r",
-        b" 1.0",
-        b"   2 w 1",
-        b" 0.5",
-        b"   1 b 0",
-        b"",
-    );
-    read_case(b"longer, wrong sum", &file, n, 0);
-}
-
 fn main() {
-    let mut file = [0u8; ROOM];
-    let n = drafts::put_sample(&mut file);
-    read_case(b"as listed", &file, n, 11);
-    read_short(&file, n);
-    read_long(&file, n);
-    read_wrong_sum();
+    let mut rows = io::large_buffer();
+    let n = io::read_full(STDIN_FILENO, &mut rows);
+    take_rows(&rows[..n]);
 }

@@ -1,24 +1,19 @@
-// Lists each file that standard input names, a name to a line, after a line with its name.
+// Lists report files, each after a line with its name. Rows of standard input make files, as `drafts` says; this program's own rows are
+//
+//     !NAME        the listing of the file that was made
+//     <NAME        the listing of the file that has the name
 ghost use Prim.Native.Nat.{_≤_};
-ghost use lib.ListN.{length};
+use drafts::Draft;
+use drafts::ROOM;
 use libc::STDIN_FILENO;
 
-// Where the name that starts at a place ends.
-fn end_of(names: &[u8], from: usize) -> usize
-    requires { ⌜ from ≤ length (now names) ⌝ }
-    ensures { λ r. ⌜ (from ≤ r) × (r ≤ length (now (names .entry))) ⌝ }
-{
-    let mut end = from;
-    while end < names.len() {
-        if names[end] == b'\n' {
-            return end;
-        }
-        end += 1;
-    }
-    end
+fn list_draft(name: &[u8], file: &[u8], d: Draft) {
+    let end = drafts::file_end(d, file);
+    drafts::print_name(name);
+    listed::print_listing(&file[..end]);
 }
 
-// One file, or why it cannot be read.
+// A file, or why it cannot be read.
 fn list_named(name: &[u8]) {
     drafts::print_name(name);
     let fd = os::open_read(name);
@@ -32,12 +27,29 @@ fn list_named(name: &[u8]) {
     libc::close(fd);
 }
 
-fn list_all(names: &[u8]) {
+// What a row does: the draft after it.
+fn take_row(file: &mut [u8; ROOM], d: Draft, row: &[u8]) -> Draft {
+    let first = drafts::first_of(row);
+    let from = drafts::after_blanks(row, 1);
+    if first == b'!' {
+        list_draft(&row[from..], file, d);
+        return d;
+    }
+    if first == b'<' {
+        list_named(&row[from..]);
+        return d;
+    }
+    drafts::put_row(file, d, row)
+}
+
+fn take_rows(rows: &[u8]) {
+    let mut file = [0u8; ROOM];
+    let mut draft = drafts::nothing();
     let mut from = 0;
-    while from < names.len() {
-        let end = end_of(names, from);
-        list_named(&names[from..end]);
-        if end == names.len() {
+    while from < rows.len() {
+        let end = drafts::end_of(rows, from, b'\n');
+        draft = take_row(&mut file, draft, &rows[from..end]);
+        if end == rows.len() {
             return;
         }
         from = end + 1;
@@ -45,7 +57,7 @@ fn list_all(names: &[u8]) {
 }
 
 fn main() {
-    let mut names = io::large_buffer();
-    let n = io::read_full(STDIN_FILENO, &mut names);
-    list_all(&names[..n]);
+    let mut rows = io::large_buffer();
+    let n = io::read_full(STDIN_FILENO, &mut rows);
+    take_rows(&rows[..n]);
 }

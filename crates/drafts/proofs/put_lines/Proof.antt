@@ -5,19 +5,19 @@ use Rattle.drafts.proofs.put_lines.Statement.{statement}
 use Rattle.drafts.proofs.put_lines.Tie as tie
 
 abbrev Inv-loop : tie.InvT-loop
-Inv-loop file₀ at line times end₀ k₀ file end k = k ≤ times
+Inv-loop file₀ at times width text end₀ k₀ file end k = k ≤ times
 
 abbrev μ-loop : tie.MeasureT-loop
-μ-loop file₀ at line times end₀ k₀ file end k = times - k
+μ-loop file₀ at times width text end₀ k₀ file end k = times - k
 
 loop-holds : tie.Need-loop-holds Inv-loop μ-loop
 loop-holds c = search needs
 
-put-requires : tie.Need-put-requires Inv-loop μ-loop
-put-requires c κs = search needs
-
 add-k : tie.Need-add-k Inv-loop μ-loop
 add-k c = search needs
+
+put-line-requires : tie.Need-put-line-requires Inv-loop μ-loop
+put-line-requires c κs = search needs
 
 loop-less : tie.Need-loop-less Inv-loop μ-loop
 loop-less c = search needs
@@ -30,4 +30,5 @@ returns c = search needs
 
 pub put-lines-spec : {M : Type 1} → statement M
 put-lines-spec =
-    tie.close (tie.spec Inv-loop μ-loop loop-holds put-requires add-k loop-less loop-again returns)
+    tie.close
+    (tie.spec Inv-loop μ-loop loop-holds add-k put-line-requires loop-less loop-again returns)

@@ -1,4 +1,4 @@
--- `drafts::put_many` meets its contract. The loop's invariant: no more times than asked. Assumes nothing.
+-- `drafts::put_many` meets its contract. The loop counts up to what is asked. Assumes nothing.
 use borrow.Author.Needs.{needs}
 use Prim.Native.Nat.{_-_, _≤_}
 use Rattle.drafts.proofs.put_many.Statement.{statement}

@@ -4,19 +4,9 @@ use lib.Seq.{length-take-le}
 use mathlib.Core.Path.{sym}
 use Rattle.writes.proofs.judge.Statement.{statement}
 use Rattle.writes.proofs.judge.Tie as tie
-use Rattle.writes.proofs.judge.Reads as reads
-use Rattle.writes.proofs.judge.Lts as lts
-use Rattle.drafts.proofs.within.Reads as within-reads
-use Rattle.io.proofs.write_all.Reads as write-all-reads
-use Rattle.question.proofs.ask_core.Reads as ask-core-reads
-use Rattle.writer.proofs.write_core.Reads as write-core-reads
-use Rattle.writes.proofs.part.Reads as part-reads
-use Rattle.writes.proofs.print_field.Reads as print-field-reads
-use Rattle.writes.proofs.print_written.Reads as print-written-reads
-use Rattle.writes.proofs.records_lent.Reads as records-lent-reads
 
-within-requires : tie.Need-within-requires
-within-requires c κs = search needs
+room-requires : tie.Need-room-requires
+room-requires c κs = search needs
 
 part-requires : tie.Need-part-requires
 part-requires c κs = search needs
@@ -70,10 +60,10 @@ slice-aggregate-write-core-8 : tie.Need-slice-aggregate-write-core-8
 slice-aggregate-write-core-8 c = sym (length-take-le _ _ (c .before .before .before .before .before .before .before .before .before .part8 .ensures))
 
 array-borrow-prefix-out : tie.Need-array-borrow-prefix-out
-array-borrow-prefix-out c = search needs
+array-borrow-prefix-out c = c .before .before .before .before .before .before .before .before .before .before .before .before .before .before .before .before .before .room .ensures
 
 slice-aggregate-write-core-9 : tie.Need-slice-aggregate-write-core-9
-slice-aggregate-write-core-9 c = sym (length-take-le _ _ (c .before .before .before .before .before .before .before .before .before .before .before .before .before .before .before .before .before .before .within .ensures))
+slice-aggregate-write-core-9 c = sym (length-take-le _ _ (c .before .before .before .before .before .before .before .before .before .before .before .before .before .before .before .before .before .before .room .ensures))
 
 write-core-requires : tie.Need-write-core-requires
 write-core-requires c κs = search needs
@@ -105,44 +95,11 @@ slice-aggregate-ask-core-8 c = sym (length-take-le _ _ (c .before .before .befor
 ask-core-requires : tie.Need-ask-core-requires
 ask-core-requires c κs = search needs
 
-write-all-requires : tie.Need-write-all-requires
-write-all-requires c κs = search needs
-
 print-written-requires : tie.Need-print-written-requires
 print-written-requires c κs = search needs
 
-slice-aggregate-print-field : tie.Need-slice-aggregate-print-field
-slice-aggregate-print-field c = search needs
-
-cast-print-field : tie.Need-cast-print-field
-cast-print-field c = search needs
-
-print-field-requires : tie.Need-print-field-requires
-print-field-requires c κs = search needs
-
-slice-aggregate-print-field-2 : tie.Need-slice-aggregate-print-field-2
-slice-aggregate-print-field-2 c = search needs
-
-cast-print-field-2 : tie.Need-cast-print-field-2
-cast-print-field-2 c = search needs
-
-print-field-requires-2 : tie.Need-print-field-requires-2
-print-field-requires-2 c κs = search needs
-
-slice-aggregate-print-field-3 : tie.Need-slice-aggregate-print-field-3
-slice-aggregate-print-field-3 c = search needs
-
-cast-print-field-3 : tie.Need-cast-print-field-3
-cast-print-field-3 c = search needs
-
-print-field-requires-3 : tie.Need-print-field-requires-3
-print-field-requires-3 c κs = search needs
-
-slice-aggregate-write-all : tie.Need-slice-aggregate-write-all
-slice-aggregate-write-all c = search needs
-
-write-all-requires-2 : tie.Need-write-all-requires-2
-write-all-requires-2 c κs = search needs
+print-score-requires : tie.Need-print-score-requires
+print-score-requires c κs = search needs
 
 returns : tie.Need-returns
 returns c = search needs
@@ -151,7 +108,7 @@ pub judge-spec : {M : Type 1} → statement M
 judge-spec =
     tie.close
     (tie.spec
-    within-requires
+    room-requires
     part-requires
     part-requires-2
     part-requires-3
@@ -181,17 +138,6 @@ judge-spec =
     slice-aggregate-ask-core-7
     slice-aggregate-ask-core-8
     ask-core-requires
-    write-all-requires
     print-written-requires
-    slice-aggregate-print-field
-    cast-print-field
-    print-field-requires
-    slice-aggregate-print-field-2
-    cast-print-field-2
-    print-field-requires-2
-    slice-aggregate-print-field-3
-    cast-print-field-3
-    print-field-requires-3
-    slice-aggregate-write-all
-    write-all-requires-2
+    print-score-requires
     returns)
