@@ -4,3 +4,4 @@ pub mod Trims
 pub mod Means
 pub mod Cases
 pub mod Keys
+pub mod Fours

@@ -8,7 +8,7 @@ ghost use lib.ListN.{length, getD, drop};
 ghost use Rattle.kit.specs.Lists.{all, between, same};
 ghost use Rattle.kit.specs.Decides.{keep, to};
 ghost use Rattle.law.specs.Columns.{blank, isBlank, cells};
-ghost use Rattle.law.specs.Fields.{isDigit, digitValue, isTens};
+ghost use Rattle.law.specs.Fields.{isDigit, digitValue, decimalFrom, isTens};
 ghost use Rattle.law.proofs.FieldsRead.{numberOf, theNumber, numberOr0, digitsFrom, arePoints, pointsOf, leadingFrom, leadingOf, trim};
 ghost use Rattle.fields.specs.Said.{orBadField};
 ghost use Rattle.fields.specs.Fields.{numberSays, orBlank, pointsSays, leadingSays};
@@ -101,6 +101,60 @@ pub fn number_or_blank(line: &[u8], from: usize) -> Number
         Number::Blank => Number::Value(0),
         _ => n,
     }
+}
+
+// The bytes of a field of four columns: whether all are digits, and what those are worth.
+fn are_digits(a: u8, b: u8, c: u8, d: u8) -> bool
+    ensures { λ r. ⌜ r ≡ all isDigit (a ∷ b ∷ c ∷ d ∷ []) ⌝ }
+{
+    if !is_digit(a) {
+        return false;
+    }
+    if !is_digit(b) {
+        return false;
+    }
+    if !is_digit(c) {
+        return false;
+    }
+    is_digit(d)
+}
+
+fn worth(a: u8, b: u8, c: u8, d: u8) -> u32
+    ensures { λ r. ⌜ r ≡ decimalFrom 0 (a ∷ b ∷ c ∷ d ∷ []) ⌝ }
+{
+    digit_value(a) * 1000 + digit_value(b) * 100 + digit_value(c) * 10 + digit_value(d)
+}
+
+// A number field of four columns or blank, which is 0, from its bytes: for a caller that has them at hand. A zero in place of a blank leaves the number as
+// it is.
+pub fn number_or_blank_of(a: u8, b: u8, c: u8, d: u8) -> Number
+    ensures { λ r. ⌜ numberSays r ≡ orBadField (to some (numberOr0 (numberOf (a ∷ b ∷ c ∷ d ∷ [])))) ⌝ }
+{
+    if a != b' ' {
+        if !are_digits(a, b, c, d) {
+            return Number::Bad;
+        }
+        return Number::Value(worth(a, b, c, d));
+    }
+    if b != b' ' {
+        if !are_digits(b'0', b, c, d) {
+            return Number::Bad;
+        }
+        return Number::Value(worth(b'0', b, c, d));
+    }
+    if c != b' ' {
+        if !are_digits(b'0', b'0', c, d) {
+            return Number::Bad;
+        }
+        return Number::Value(worth(b'0', b'0', c, d));
+    }
+    if d != b' ' {
+        if !are_digits(b'0', b'0', b'0', d) {
+            return Number::Bad;
+        }
+        return Number::Value(worth(b'0', b'0', b'0', d));
+    }
+    Number::Value(0)
 }
 
 // Whether a number is 1 to the most that there may be.

@@ -5,13 +5,13 @@ use mathlib.Core.Option.{Option}
 use mathlib.Core.List.{List, [], _∷_}
 use Prim.Native.Nat.{ℕ, zero, suc, _+_, _-_, _≤_, _<_}
 use Prim.Native.Char.{code}
-use native.Mathlib.Decide.{ℕ-discrete, decLt}
+use native.Mathlib.Decide.{ℕ-discrete}
 use native.Mathlib.Nat.{add-zero}
 use native.Mathlib.Numerals.{add-one}
 use native.Mathlib.Omega.{arith}
 use lib.Dec.{eqb}
-use lib.ListN.{length, getD, take, drop, set, replicate, length-set, getD-replicate, drop-of-length-le, List·getD-eq-default}
-use lib.Seq.{getD-set-same, getD-set-other, getD-take, take-all, drop-cons, ext-getD}
+use lib.ListN.{length, getD, drop, set, length-set, drop-of-length-le}
+use lib.Seq.{getD-set-same, getD-set-other, drop-cons, ext-getD}
 use borrow.Author.Tests.{eq-eqb, ne-eqb, eqb-true}
 use Rattle.kit.specs.Ascii.{ascii}
 use Rattle.kit.specs.Lists.{all, among, isOneOf}
@@ -28,17 +28,6 @@ use Rattle.fields.proofs.Turns.{and-true}
 use Rattle.kept_columns.specs.Kept.{grades, dateShape, fitsShape}
 use Rattle.fields.proofs.Keys.{and-false}
 
--- ---- an array of w blanks, filled with the columns after the first `at`, of which those before j are there
-pub record Filled (row : List ℕ) (at w : ℕ) (k : List ℕ) (j : ℕ) : Type 0 where
-  pub long : length k ≡ w
-  pub holds : (i : ℕ) → i < w → getD k i 0 ≡ getD (take j row) (at + i) blank
-
-taken-past : (j : ℕ) (row : List ℕ) (x d : ℕ) → j ≤ x → getD (take j row) x d ≡ d
-taken-past zero row x d h = List·getD-eq-default [] d {n = x} (omega arith)
-taken-past (suc j) [] x d h = List·getD-eq-default [] d {n = x} (omega arith)
-taken-past (suc j) (y ∷ row) zero d h = absurd (omega arith)
-taken-past (suc j) (y ∷ row) (suc x) d h = taken-past j row x d (omega arith)
-
 pub getD-cells : (row : List ℕ) (i w j : ℕ) → j < w → getD (cells row i w) j 0 ≡ getD row (i + j) blank
 getD-cells row i zero j h = absurd (omega arith)
 getD-cells row i (suc w) zero h = ap (λ (l : List ℕ). getD l 0 0) (cells-cons row i w) ∙ ap (λ (k : ℕ). getD row k blank) (sym (add-zero i))
@@ -46,42 +35,30 @@ getD-cells row i (suc w) (suc j) h =
     let e : suc i + j ≡ i + suc j = omega arith in
     ap (λ (l : List ℕ). getD l (suc j) 0) (cells-cons row i w) ∙ getD-cells row (suc i) w j (omega arith) ∙ ap (λ (k : ℕ). getD row k blank) e
 
+-- ---- an array of w bytes, of which the first i are the columns after the first `at`
+pub record Filled (row : List ℕ) (at w : ℕ) (k : List ℕ) (i : ℕ) : Type 0 where
+  pub long : length k ≡ w
+  pub holds : (j : ℕ) → j < i → getD k j 0 ≡ getD row (at + j) blank
+
 module _ (row : List ℕ) (at w : ℕ) where
-  pub filled-none : (k : List ℕ) → k ≡ replicate w blank → length k ≡ w → Filled row at w k at
-  filled-none k e l = record { long = l; holds = λ i h. ap (λ (m : List ℕ). getD m i 0) e ∙ getD-replicate w i blank 0 h ∙ sym (taken-past at row (at + i) blank (omega arith)) }
+  pub filled-none : (k : List ℕ) → length k ≡ w → Filled row at w k 0
+  filled-none k l = record { long = l; holds = λ j h. absurd (omega arith) }
 
-  module _ (k : List ℕ) (j : ℕ) (f : Filled row at w k j) where
-    pub filled-more : at ≤ j → j < length row → j < at + w → Filled row at w (set k (j - at) (getD row j 0)) (j + 1)
-    filled-more p q r = record { long = length-set k (j - at) (getD row j 0) ∙ f .long; holds = λ i h. go i h (ℕ-discrete i (j - at)) }
+  module _ (k : List ℕ) (i : ℕ) (f : Filled row at w k i) where
+    pub filled-more : i < w → at + i < length row → Filled row at w (set k i (getD row (at + i) 0)) (i + 1)
+    filled-more p q = record { long = length-set k i (getD row (at + i) 0) ∙ f .long; holds = λ j h. go j h (ℕ-discrete j i) }
       where
-        same : (x : ℕ) → (x ≡ j → ⊥) → getD (take j row) x blank ≡ getD (take (j + 1) row) x blank
-        same x n = by (decLt x j)
-          where
-            by : Dec (x < j) → getD (take j row) x blank ≡ getD (take (j + 1) row) x blank
-            by (yes l) = getD-take j row x blank l ∙ sym (getD-take (j + 1) row x blank (omega arith))
-            by (no l) = taken-past j row x blank (omega arith) ∙ sym (taken-past (j + 1) row x blank (omega arith))
-
-        go : (i : ℕ) → i < w → Dec (i ≡ j - at) → getD (set k (j - at) (getD row j 0)) i 0 ≡ getD (take (j + 1) row) (at + i) blank
-        go i h (yes e) =
+        go : (j : ℕ) → j < i + 1 → Dec (j ≡ i) → getD (set k i (getD row (at + i) 0)) j 0 ≡ getD row (at + j) blank
+        go j h (yes e) =
             let l = f .long in
-            let z : at + i ≡ j = omega arith in
-            ap (λ (x : ℕ). getD (set k (j - at) (getD row j 0)) x 0) e ∙ getD-set-same k (j - at) (getD row j 0) 0 (omega arith)
-            ∙ getD-any row j 0 blank q ∙ sym (getD-take (j + 1) row j blank (omega arith)) ∙ ap (λ (x : ℕ). getD (take (j + 1) row) x blank) (sym z)
-        go i h (no n) =
-            let m : i ≡ j - at → ⊥ = n in
-            getD-set-other k (j - at) i (getD row j 0) 0 m ∙ f .holds i h ∙ same (at + i) (λ e. m (omega arith))
+            ap (λ (x : ℕ). getD (set k i (getD row (at + i) 0)) x 0) e ∙ getD-set-same k i (getD row (at + i) 0) 0 (omega arith)
+            ∙ getD-any row (at + i) 0 blank q ∙ ap (λ (x : ℕ). getD row (at + x) blank) (sym e)
+        go j h (no n) = let m : j ≡ i → ⊥ = n in getD-set-other k i j (getD row (at + i) 0) 0 m ∙ f .holds j (omega arith)
 
-    pub filled-all : ((i : ℕ) → i < w → getD (take j row) (at + i) blank ≡ getD row (at + i) blank) → k ≡ cells row at w
+    pub filled-all : w ≤ i → k ≡ cells row at w
     filled-all h =
         let l = f .long in
-        ext-getD 0 k (cells row at w) (l ∙ sym (length-cells row at w)) (λ i p. let q : i < w = omega arith in f .holds i q ∙ h i q ∙ sym (getD-cells row at w i q))
-
--- the line ends before, or all columns are there
-pub all-taken : (row : List ℕ) (j x : ℕ) → length row ≤ j → getD (take j row) x blank ≡ getD row x blank
-all-taken row j x h = ap (λ (l : List ℕ). getD l x blank) (take-all j row h)
-
-pub first-taken : (row : List ℕ) (j x : ℕ) → x < j → getD (take j row) x blank ≡ getD row x blank
-first-taken row j x h = getD-take j row x blank h
+        ext-getD 0 k (cells row at w) (l ∙ sym (length-cells row at w)) (λ j p. let q : j < w = omega arith in f .holds j (omega arith) ∙ sym (getD-cells row at w j q))
 
 -- ---- sex and title
 pub sex-by : (c : ℕ) → isOneOf (c ∷ []) sexes ≡ among c (ascii "mw ")
@@ -159,7 +136,7 @@ date-turn row j i c h at v e =
     ∙ ap (λ (b : Bool). b && hasShape (drop (i + 1) dateShape) (cells row (j + (i + 1)) (10 - (i + 1)))) e
 
 -- ---- the columns between the fields
-gap : (k : List ℕ) (i : ℕ) → i < length k → all isBlank (cells k i 1) ≡ isBlank (getD k i 0)
+pub gap : (k : List ℕ) (i : ℕ) → i < length k → all isBlank (cells k i 1) ≡ isBlank (getD k i 0)
 gap k i h = ap (all isBlank) (cells-one k i) ∙ and-true (isBlank (getD k i blank)) ∙ ap isBlank (getD-any k i blank 0 h)
 
 pub gaps-by : (k : List ℕ) (a b c d e : Bool) → length k ≡ 70 → isBlank (getD k 4 0) ≡ a → isBlank (getD k 38 0) ≡ b → isBlank (getD k 43 0) ≡ c → isBlank (getD k 47 0) ≡ d → isBlank (getD k 59 0) ≡ e

@@ -1,18 +1,11 @@
 -- What the tests of the kept columns are made of.
-use mathlib.Core.Path.{_≡_}
 use mathlib.Core.Bool.{Bool, _&&_, _||_}
 use mathlib.Core.List.{List}
-use Prim.Native.Nat.{ℕ, _≤_, _<_}
+use Prim.Native.Nat.{ℕ}
 use Prim.Native.Char.{code}
 use lib.Dec.{eqb}
 use Rattle.kit.specs.Ascii.{ascii}
 use Rattle.law.specs.Fields.{isDigit}
-
--- r is the lesser of a and b
-pub record Least (a b r : ℕ) : Type 0 where
-  pub first : r ≤ a
-  pub second : r ≤ b
-  pub one : r < b → r ≡ a
 
 -- what stands before M in a title
 abbrev pub grades : List ℕ

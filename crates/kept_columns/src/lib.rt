@@ -4,34 +4,26 @@ use fields::Number;
 ghost use mathlib.Core.Path.{_≡_};
 ghost use mathlib.Core.List.{[], _∷_};
 ghost use Prim.Native.Nat.{_≤_, _<_};
-ghost use lib.ListN.{getD};
+ghost use lib.ListN.{length, getD};
 ghost use Rattle.kit.specs.Lists.{among, isOneOf};
-ghost use Rattle.law.specs.Columns.{cells, elseBlank};
+ghost use Rattle.law.specs.Columns.{cells, part, elseBlank};
 ghost use Rattle.law.specs.Fields.{hasShape};
 ghost use Rattle.law.specs.Players.{keptField, keptFields, inLine, sexes, titles, isBirth};
 ghost use Rattle.law.proofs.RecordsRead.{isKept};
-ghost use Rattle.kept_columns.specs.Kept.{Least, grades, fitsShape, dateShape};
+ghost use Rattle.kept_columns.specs.Kept.{grades, fitsShape, dateShape};
 
-// How many columns stand before the kept ones, and up to their end.
+// How many columns stand before the kept ones.
 const BEFORE_KEPT: usize = 9;
 
-const KEPT_END: usize = BEFORE_KEPT + KEPT_COLUMNS;
-
-fn least(a: usize, b: usize) -> usize
-    ensures { λ r. ⌜ Least a b r ⌝ }
-{
-    if a < b { a } else { b }
-}
-
-// The 70 columns 10-79: blanks, then filled from the line as far as it goes.
+// The 70 columns 10-79 of a line that has them all: no column is tested.
 pub fn kept_of(line: &[u8]) -> [u8; KEPT_COLUMNS]
-    ensures { λ r. ⌜ r ≡ cells (now (line .entry)) 9 70 ⌝ }
+    requires { ⌜ keptField .1 ≤ length (now line) ⌝ }
+    ensures { λ r. ⌜ r ≡ part keptField (now (line .entry)) ⌝ }
 {
     let mut kept = [b' '; KEPT_COLUMNS];
-    let end = least(line.len(), KEPT_END);
-    let mut i = BEFORE_KEPT;
-    while i < end {
-        kept[i - BEFORE_KEPT] = line[i];
+    let mut i = 0;
+    while i < KEPT_COLUMNS {
+        kept[i] = line[BEFORE_KEPT + i];
         i += 1;
     }
     kept

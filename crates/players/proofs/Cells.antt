@@ -1,16 +1,17 @@
 -- What is stored of a player's rounds is what join stores of its slots. Assumes nothing.
 use mathlib.Core.Path.{_≡_, refl, sym, ap, ap₂, _∙_}
-use mathlib.Core.Bool.{Bool, true, false, cond}
+use mathlib.Core.Bool.{Bool, true, false, cond, _||_, not}
 use mathlib.Core.List.{List, [], _∷_, map}
-use Prim.Native.Nat.{ℕ, zero, suc, _+_, _*_, _≤_, _<_}
+use Prim.Native.Nat.{ℕ, zero, suc, _*_, _<_}
 use Prim.Native.Char.{code}
 use native.Mathlib.Omega.{arith}
 use lib.Dec.{eqb}
-use lib.ListN.{length, getD, set}
+use lib.ListN.{getD, set}
 use lib.Seq.{paste}
-use borrow.Author.Tests.{eqb-true, eq-eqb, ne-eqb}
+use borrow.Author.Tests.{eqb-true}
+use Rattle.kit.proofs.Bools.{clash}
 use Rattle.law.specs.Sizes.{mostRounds}
-use Rattle.law.specs.Columns.{blank, isBlank, width}
+use Rattle.law.specs.Columns.{isBlank, width}
 use Rattle.law.specs.Players.{Slot, PlayerLine, keptField}
 use Rattle.law.specs.Tournament.{Entry, normal, blankAs}
 use Rattle.law.specs.Entries.{noEntry}
@@ -83,14 +84,21 @@ put-as cell x p v w (suc n) same =
 pub letter-none : (other id c : ℕ) (used : Bool) → used ≡ false → 0 ≡ rawLetter other id c used
 letter-none other id c used e = rw e refl
 
-pub letter-own : (other id c : ℕ) (used : Bool) → used ≡ true → (id ≡ 0 → ⊥) → c ≡ rawLetter other id c used
-letter-own other id c used e q = rw (e, ne-eqb id 0 q) refl
+pub letter-own : (other id c : ℕ) (used : Bool) → used ≡ true → not (eqb id 0) || not (isBlank c) ≡ true → c ≡ rawLetter other id c used
+letter-own other id c used e h = rw e (go (eqb id 0) (isBlank c) h)
+  where
+    go : (u v : Bool) → not u || not v ≡ true → c ≡ cond u (cond v other c) c
+    go false v q = refl
+    go true false q = refl
+    go true true q = clash q
 
-pub letter-other : (other id c : ℕ) (used : Bool) → used ≡ true → id ≡ 0 → c ≡ blank → other ≡ rawLetter other id c used
-letter-other other id c used e q r = rw (e, eq-eqb id 0 q, eq-eqb c blank r) refl
-
-pub letter-bye : (other id c : ℕ) (used : Bool) → used ≡ true → id ≡ 0 → (c ≡ blank → ⊥) → c ≡ rawLetter other id c used
-letter-bye other id c used e q r = rw (e, eq-eqb id 0 q, ne-eqb c blank r) refl
+pub letter-other : (other id c : ℕ) (used : Bool) → used ≡ true → not (eqb id 0) || not (isBlank c) ≡ false → other ≡ rawLetter other id c used
+letter-other other id c used e h = rw e (go (eqb id 0) (isBlank c) h)
+  where
+    go : (u v : Bool) → not u || not v ≡ false → other ≡ cond u (cond v other c) c
+    go false v q = clash (sym q)
+    go true false q = clash (sym q)
+    go true true q = refl
 
 -- ---- the tables with a player more
 nine-≡ : {a0 a1 a2 a3 a4 a5 a6 a7 a8 b0 b1 b2 b3 b4 b5 b6 b7 b8 : List ℕ} → a0 ≡ b0 → a1 ≡ b1 → a2 ≡ b2 → a3 ≡ b3 → a4 ≡ b4 → a5 ≡ b5 → a6 ≡ b6 → a7 ≡ b7 → a8 ≡ b8

@@ -42,13 +42,10 @@ fn letter_stored(id: u32, letter: u8, used: bool, other: u8) -> u8
     if !used {
         return 0;
     }
-    if id != 0 {
+    if (id != 0) | (letter != b' ') {
         return letter;
     }
-    if letter == b' ' {
-        return other;
-    }
-    letter
+    other
 }
 
 // The same of each round.

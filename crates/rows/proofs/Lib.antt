@@ -1,2 +1,3 @@
 pub mod PlayerRounds
 pub mod PlayerLines
+pub mod ShortLines

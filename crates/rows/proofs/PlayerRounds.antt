@@ -2,8 +2,9 @@
 use mathlib.Core.Path.{_≡_, refl, sym, ap, ap₂, _∙_}
 use mathlib.Core.Bool.{Bool, true, false, _&&_, not}
 use mathlib.Core.Option.{Option, none, some}
-use mathlib.Core.List.{List, [], _∷_, _++_, map, append-assoc, append-nil}
-use Prim.Native.Nat.{ℕ, zero, suc, _+_, _*_, _-_, _≤_, _<_}
+use mathlib.Core.List.{List, [], _∷_, _++_, map, append-nil}
+use Prim.Native.Nat.{ℕ, suc, _+_, _*_, _-_, _≤_, _<_}
+use native.Mathlib.Numerals.{add-one}
 use native.Mathlib.Omega.{arith}
 use lib.ListN.{length, getD, set, replicate, length-map, length-append}
 use lib.Seq.{set-at, append-snoc}
@@ -14,7 +15,11 @@ use Rattle.law.specs.Columns.{blank, isBlank, cells, col, part, column, elseBla
 use Rattle.law.specs.Players.{Slot, idField, entryColourColumn, resultColumn, roundFields, slotColours, slotResults, capital}
 use Rattle.law.proofs.FieldsRead as law
 use Rattle.law.proofs.RecordsRead.{isUsed, slotOf, slotsOf}
+use Rattle.fields.proofs.Columns.{getD-any, cells-cons, cells-one, cells-four}
+use Rattle.fields.proofs.Turns.{and-true}
+use Rattle.fields.proofs.Fours.{last-blank}
 use Rattle.fields.proofs.Cases.{standing, is-standing}
+use Rattle.kept_columns.proofs.KeptColumns.{gap}
 use Rattle.rows.specs.declared.Slots.{Slots}
 use Rattle.rows.specs.Rows.{noSlots, theSlots, SlotsSay, idsOf, coloursOf, resultsOf, usedOf}
 
@@ -46,6 +51,34 @@ module _ (row : List ℕ) (r : ℕ) (h : 1 ≤ r) where
       ap₂ (λ (m n : ℕ). when (among m slotColours && among n slotResults) (to (λ i. slotFrom i m n (isUsed row r)) (law.numberOr0 (law.numberOf (part (idField r) row))))) u v
       ∙ ap₂ (λ (a b : Bool). when (a && b) (to (λ i. slotFrom i x y (isUsed row r)) (law.numberOr0 (law.numberOf (part (idField r) row))))) c-is d-is
       ∙ ap (λ (q : Option ℕ). when (c && d) (to (λ i. slotFrom i x y (isUsed row r)) q)) (ap (λ (l : List ℕ). law.numberOr0 (law.numberOf l)) id-there ∙ o-is)
+
+-- ---- the same by the line's bytes, of a line that has them all
+pub three-tests : (a b c : Bool) → (a && b) && c ≡ a && (b && (c && true))
+three-tests true true c = sym (and-true c)
+three-tests true false c = refl
+three-tests false b c = refl
+
+module _ (row : List ℕ) (r : ℕ) (h : 1 ≤ r) (h-most : r ≤ 20) (long : 289 ≤ length row) where
+  abbrev pub idBytes : List ℕ
+  idBytes = getD row (81 + 10 * r) 0 ∷ getD row (81 + 10 * r + 1) 0 ∷ getD row (81 + 10 * r + 2) 0 ∷ getD row (81 + 10 * r + 3) 0 ∷ []
+
+  there : (k : ℕ) → k ≤ 7 → getD row (81 + 10 * r + k) blank ≡ getD row (81 + 10 * r + k) 0
+  there k q = getD-any row (81 + 10 * r + k) blank 0 (omega arith)
+
+  id-bytes : cells row (81 + 10 * r) 4 ≡ idBytes
+  id-bytes = cells-four row (81 + 10 * r) ∙ (λ i. getD-any row (81 + 10 * r) blank 0 (omega arith) i ∷ there 1 (omega arith) i ∷ there 2 (omega arith) i ∷ there 3 (omega arith) i ∷ [])
+
+  pub slot-read : (y : ℕ) (c d : Bool) (o : Option ℕ) → y ≡ capital (getD row (81 + 10 * r + 7) 0) → among (getD row (81 + 10 * r + 5) 0) slotColours ≡ c → among y slotResults ≡ d
+      → law.numberOr0 (law.numberOf idBytes) ≡ o → slotOf row r ≡ when (c && d) (to (λ i. slotFrom i (getD row (81 + 10 * r + 5) 0) y (isUsed row r)) o)
+  slot-read y c d o y-is c-is d-is o-is =
+      slot-by row r h (getD row (81 + 10 * r + 5) 0) y c d o (sym (there 5 (omega arith))) (y-is ∙ ap capital (sym (there 7 (omega arith)))) c-is d-is (ap (λ (l : List ℕ). law.numberOr0 (law.numberOf l)) id-bytes ∙ o-is)
+
+  pub used-read : (n : ℕ) → law.numberOr0 (law.numberOf idBytes) ≡ some n
+      → not (all isBlank (getD row (81 + 10 * r + 3) 0 ∷ getD row (81 + 10 * r + 5) 0 ∷ getD row (81 + 10 * r + 7) 0 ∷ [])) ≡ isUsed row r
+  used-read n e =
+      sym (used-by row r h (isBlank (getD row (81 + 10 * r + 3) 0)) (isBlank (getD row (81 + 10 * r + 5) 0)) (isBlank (getD row (81 + 10 * r + 7) 0))
+      (ap (all isBlank) id-bytes ∙ last-blank (getD row (81 + 10 * r) 0 ∷ getD row (81 + 10 * r + 1) 0 ∷ getD row (81 + 10 * r + 2) 0 ∷ []) (getD row (81 + 10 * r + 3) 0) n e)
+      (gap row (81 + 10 * r + 5) (omega arith)) (gap row (81 + 10 * r + 7) (omega arith)))
 
 -- ---- the rounds, of which the first i are read
 set-next : {A : Type 0} (g : Slot → A) (z : A) (slots : List Slot) (s : Slot) (i n : ℕ) → length slots ≡ i → i < n
@@ -119,6 +152,10 @@ module _ (row : List ℕ) (i : ℕ) (ids colours results : List ℕ) (used : Lis
       slots-are (slotsOf row) (record { good = true; ids = ids; colours = colours; results = results; used = used }) ((λ k. record { good = true; ids = a k; colours = b k; results = c k; used = d k }) ∙ ap asSlots (sym whole))
 
 -- ---- the columns between the rounds' fields
+pub two-columns : (row : List ℕ) (i : ℕ) → all isBlank (cells row i 2) ≡ all isBlank (cells row i 1) && all isBlank (cells row (i + 1) 1)
+two-columns row i =
+    ap (all isBlank) (cells-cons row i 1) ∙ ap₂ (λ (x y : Bool). x && y) (sym (ap (all isBlank) (cells-one row i) ∙ and-true (isBlank (getD row i blank)))) (ap (λ (j : ℕ). all isBlank (cells row j 1)) (sym (add-one i)))
+
 pub between-turn : (row : List ℕ) (i : ℕ) → i < 20 → (v : Bool)
     → conj (all isBlank (cells row (89 + 10 * i) 2) ∷ all isBlank (cells row (89 + 10 * i + 6) 1) ∷ all isBlank (cells row (89 + 10 * i + 8) 1) ∷ []) ≡ v
     → elseBlank (90 + 10 * i) (flat roundFields (from (i + 1) (20 - i))) row ≡ v && elseBlank (90 + 10 * (i + 1)) (flat roundFields (from (i + 1 + 1) (20 - (i + 1)))) row

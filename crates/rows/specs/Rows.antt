@@ -4,12 +4,17 @@ use mathlib.Core.Option.{Option}
 use mathlib.Core.List.{List, map}
 use Prim.Native.Nat.{ℕ}
 use lib.ListN.{replicate}
+use Rattle.law.specs.Sizes.{mostRounds}
 use Rattle.law.specs.Players as law
 use Rattle.fields.specs.Said.{Said, says, refuses, Stands}
 use Rattle.rows.specs.declared.Slot.{Slot}
 use Rattle.rows.specs.declared.Slot.the-variants as slot
 use Rattle.rows.specs.declared.Slots.{Slots}
 use Rattle.rows.specs.declared.Row.{Row}
+
+-- the columns up to the last round's result
+abbrev pub playerColumns : ℕ
+playerColumns = law.resultColumn mostRounds
 
 abbrev pub slotSays : Slot → Said law.Slot
 slotSays (slot.Read id colour result used) = says (record { id = id; colour = colour; result = result; used = used })

@@ -8,17 +8,22 @@ use records::MOST_START;
 use types::Rank;
 use types::StartNumber;
 ghost use mathlib.Core.Path.{_≡_};
-ghost use mathlib.Core.List.{[], _∷_};
-ghost use Prim.Native.Nat.{_+_, _≤_};
+ghost use mathlib.Core.Bool.{not};
+ghost use mathlib.Core.List.{[], _∷_, _++_};
+ghost use Prim.Native.Nat.{_+_, _-_, _≤_, _<_};
+ghost use lib.ListN.{length, replicate};
 ghost use Rattle.kit.specs.Lists.{all, among, conj, flat};
-ghost use Rattle.law.specs.Columns.{isBlank, cells, elseBlank, afterCode};
+ghost use Rattle.law.specs.Columns.{blank, isBlank, cells, elseBlank, afterCode};
 ghost use Rattle.law.specs.Players.{slotColours, slotResults, roundFields, everyRound, playerFields, capital as capitalOf};
-ghost use Rattle.law.proofs.RecordsRead.{isUsed, slotOf, slotsOf, playerOf};
+ghost use Rattle.law.proofs.RecordsRead.{slotOf, slotsOf, playerOf};
 ghost use Rattle.fields.specs.Said.{orBadField};
-ghost use Rattle.rows.specs.Rows.{slotSays, noSlots, SlotsSay, noRow, RowSays};
+ghost use Rattle.rows.specs.Rows.{playerColumns, slotSays, noSlots, SlotsSay, noRow, RowSays};
 
 // The rounds that a 001 line has columns for.
 const ROUNDS: usize = MOST_ROUNDS as usize;
+
+// The columns up to the last round's result.
+const COLUMNS: usize = 89 + 10 * ROUNDS;
 
 // A round's columns on a 001 line: the id, 0 where it is blank, the colour as it stands, the result as a capital, and whether a byte of them is not blank.
 enum Slot {
@@ -79,37 +84,33 @@ fn is_slot_result(c: u8) -> bool
     }
 }
 
-fn is_used(line: &[u8], round: usize) -> bool
-    requires { ⌜ (1 ≤ round) × (round ≤ 20) ⌝ }
-    ensures { λ r. ⌜ r ≡ isUsed (now (line .entry)) round ⌝ }
+// Whether a round has a byte that is not blank: of a number field or blank the last column says it.
+fn is_used(last: u8, colour: u8, code: u8) -> bool
+    ensures { λ r. ⌜ r ≡ not (all isBlank (last ∷ colour ∷ code ∷ [])) ⌝ }
 {
-    let at = 81 + 10 * round;
-    if !fields::blank_at(line, at, 4) {
-        return true;
-    }
-    if !fields::blank_at(line, at + 5, 1) {
-        return true;
-    }
-    !fields::blank_at(line, at + 7, 1)
+    !((last == b' ') & (colour == b' ') & (code == b' '))
 }
 
 fn slot_of(line: &[u8], round: usize) -> Slot
-    requires { ⌜ (1 ≤ round) × (round ≤ 20) ⌝ }
+    requires { ⌜ (1 ≤ round) × (round ≤ 20) × (playerColumns ≤ length (now line)) ⌝ }
     ensures { λ r. ⌜ slotSays r ≡ orBadField (slotOf (now (line .entry)) round) ⌝ }
 {
     let at = 81 + 10 * round;
-    let colour = fields::column(line, at + 5);
+    let colour = line[at + 5];
     if !is_slot_colour(colour) {
         return Slot::Bad;
     }
-    let result = capital(fields::column(line, at + 7));
+    let code = line[at + 7];
+    let result = capital(code);
     if !is_slot_result(result) {
         return Slot::Bad;
     }
-    let Number::Value(id) = fields::number_or_blank(line, at) else {
+    let last = line[at + 3];
+    let Number::Value(id) = fields::number_or_blank_of(line[at], line[at + 1], line[at + 2], last)
+    else {
         return Slot::Bad;
     };
-    Slot::Read(id, colour, result, is_used(line, round))
+    Slot::Read(id, colour, result, is_used(last, colour, code))
 }
 
 fn no_slots() -> Slots
@@ -125,6 +126,7 @@ fn no_slots() -> Slots
 }
 
 fn slots_of(line: &[u8]) -> Slots
+    requires { ⌜ playerColumns ≤ length (now line) ⌝ }
     ensures { λ r. ⌜ SlotsSay (slotsOf (now (line .entry))) r ⌝ }
 {
     let mut ids = [0u32; ROUNDS];
@@ -151,21 +153,32 @@ fn slots_of(line: &[u8]) -> Slots
     }
 }
 
+fn blank_column(line: &[u8], i: usize) -> bool
+    requires { ⌜ i < length (now line) ⌝ }
+    ensures { λ r. ⌜ r ≡ all isBlank (cells (now (line .entry)) i 1) ⌝ }
+{
+    line[i] == b' '
+}
+
 // Whether a round's columns between its fields, and those before it, are blank.
 fn round_else_blank(line: &[u8], at: usize) -> bool
-    requires { ⌜ at ≤ 65535 ⌝ }
+    requires { ⌜ at + 8 < length (now line) ⌝ }
     ensures { λ r. ⌜ r ≡ conj (all isBlank (cells (now (line .entry)) at 2) ∷ all isBlank (cells (now (line .entry)) (at + 6) 1) ∷ all isBlank (cells (now (line .entry)) (at + 8) 1) ∷ []) ⌝ }
 {
-    if !fields::blank_at(line, at, 2) {
+    if !blank_column(line, at) {
         return false;
     }
-    if !fields::blank_at(line, at + 6, 1) {
+    if !blank_column(line, at + 1) {
         return false;
     }
-    fields::blank_at(line, at + 8, 1)
+    if !blank_column(line, at + 6) {
+        return false;
+    }
+    blank_column(line, at + 8)
 }
 
 fn rounds_else_blank(line: &[u8]) -> bool
+    requires { ⌜ playerColumns ≤ length (now line) ⌝ }
     ensures { λ r. ⌜ r ≡ elseBlank 90 (flat roundFields everyRound) (now (line .entry)) ⌝ }
 {
     let mut i = 0;
@@ -175,22 +188,23 @@ fn rounds_else_blank(line: &[u8]) -> bool
         }
         i += 1;
     }
-    fields::blank_from(line, 289)
+    fields::blank_from(line, COLUMNS)
 }
 
 fn player_else_blank(line: &[u8]) -> bool
+    requires { ⌜ playerColumns ≤ length (now line) ⌝ }
     ensures { λ r. ⌜ r ≡ elseBlank afterCode playerFields (now (line .entry)) ⌝ }
 {
-    if !fields::blank_at(line, 3, 1) {
+    if !blank_column(line, 3) {
         return false;
     }
-    if !fields::blank_at(line, 8, 1) {
+    if !blank_column(line, 8) {
         return false;
     }
-    if !fields::blank_at(line, 79, 1) {
+    if !blank_column(line, 79) {
         return false;
     }
-    if !fields::blank_at(line, 84, 1) {
+    if !blank_column(line, 84) {
         return false;
     }
     rounds_else_blank(line)
@@ -212,7 +226,9 @@ fn no_row() -> Row
     }
 }
 
-pub fn player_of(line: &[u8]) -> Row
+// A line that has all the columns: none is tested to be there.
+fn wide_player(line: &[u8]) -> Row
+    requires { ⌜ playerColumns ≤ length (now line) ⌝ }
     ensures { λ r. ⌜ RowSays (playerOf (now (line .entry))) r ⌝ }
 {
     if !player_else_blank(line) {
@@ -250,4 +266,28 @@ pub fn player_of(line: &[u8]) -> Row
         results,
         used,
     }
+}
+
+// A shorter line with blanks after it.
+fn widened(line: &[u8]) -> [u8; COLUMNS]
+    requires { ⌜ length (now line) ≤ playerColumns ⌝ }
+    ensures { λ r. ⌜ r ≡ now (line .entry) ++ replicate (playerColumns - length (now (line .entry))) blank ⌝ }
+{
+    let mut wide = [b' '; COLUMNS];
+    let mut i = 0;
+    while i < line.len() {
+        wide[i] = line[i];
+        i += 1;
+    }
+    wide
+}
+
+pub fn player_of(line: &[u8]) -> Row
+    ensures { λ r. ⌜ RowSays (playerOf (now (line .entry))) r ⌝ }
+{
+    if line.len() < COLUMNS {
+        let wide = widened(line);
+        return wide_player(&wide);
+    }
+    wide_player(line)
 }

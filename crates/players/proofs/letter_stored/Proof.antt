@@ -1,6 +1,6 @@
 -- `players::letter_stored` meets its contract. Assumes nothing.
 use borrow.Author.Tests.{not-true, not-false}
-use Rattle.players.proofs.Cells.{letter-none, letter-own, letter-other, letter-bye}
+use Rattle.players.proofs.Cells.{letter-none, letter-own, letter-other}
 use Rattle.players.proofs.letter_stored.Statement.{statement}
 use Rattle.players.proofs.letter_stored.Tie as tie
 
@@ -16,13 +16,8 @@ returns-2 c =
 
 returns-3 : tie.Need-returns-3
 returns-3 c =
-    let a = c .before .before .before .args in
-    letter-other (a .other) (a .id) (a .letter) (a .used) (not-false _ (c .before .before .if1 .left)) (c .before .if2 .left) (c .if3 .taken)
-
-returns-4 : tie.Need-returns-4
-returns-4 c =
-    let a = c .before .before .before .args in
-    letter-bye (a .other) (a .id) (a .letter) (a .used) (not-false _ (c .before .before .if1 .left)) (c .before .if2 .left) (c .if3 .left)
+    let a = c .before .before .args in
+    letter-other (a .other) (a .id) (a .letter) (a .used) (not-false _ (c .before .if1 .left)) (c .if2 .left)
 
 pub letter-stored-spec : {M : Type 1} → statement M
-letter-stored-spec = tie.close (tie.spec returns returns-2 returns-3 returns-4)
+letter-stored-spec = tie.close (tie.spec returns returns-2 returns-3)

@@ -5,47 +5,47 @@ use borrow.Author.Needs.{needs}
 use Rattle.rows.proofs.player_else_blank.Statement.{statement}
 use Rattle.rows.proofs.player_else_blank.Tie as tie
 
-blank-at-requires : tie.Need-blank-at-requires
-blank-at-requires c κs = search needs
+blank-column-requires : tie.Need-blank-column-requires
+blank-column-requires c κs = search needs
 
 returns : tie.Need-returns
-returns c = rw (sym (c .before .blank-at .ensures) ∙ not-true _ (c .if1 .taken)) refl
+returns c = rw (sym (c .before .blank-column .ensures) ∙ not-true _ (c .if1 .taken)) refl
 
-blank-at-requires-2 : tie.Need-blank-at-requires-2
-blank-at-requires-2 c κs = search needs
+blank-column-requires-2 : tie.Need-blank-column-requires-2
+blank-column-requires-2 c κs = search needs
 
 returns-2 : tie.Need-returns-2
-returns-2 c = rw (sym (c .before .before .before .blank-at .ensures) ∙ not-false _ (c .before .before .if1 .left), sym (c .before .blank-at2 .ensures) ∙ not-true _ (c .if2 .taken)) refl
+returns-2 c = rw (sym (c .before .before .before .blank-column .ensures) ∙ not-false _ (c .before .before .if1 .left), sym (c .before .blank-column2 .ensures) ∙ not-true _ (c .if2 .taken)) refl
 
-blank-at-requires-3 : tie.Need-blank-at-requires-3
-blank-at-requires-3 c κs = search needs
+blank-column-requires-3 : tie.Need-blank-column-requires-3
+blank-column-requires-3 c κs = search needs
 
 returns-3 : tie.Need-returns-3
-returns-3 c = rw (sym (c .before .before .before .before .before .blank-at .ensures) ∙ not-false _ (c .before .before .before .before .if1 .left), sym (c .before .before .before .blank-at2 .ensures) ∙ not-false _ (c .before .before .if2 .left), sym (c .before .blank-at3 .ensures) ∙ not-true _ (c .if3 .taken)) refl
+returns-3 c = rw (sym (c .before .before .before .before .before .blank-column .ensures) ∙ not-false _ (c .before .before .before .before .if1 .left), sym (c .before .before .before .blank-column2 .ensures) ∙ not-false _ (c .before .before .if2 .left), sym (c .before .blank-column3 .ensures) ∙ not-true _ (c .if3 .taken)) refl
 
-blank-at-requires-4 : tie.Need-blank-at-requires-4
-blank-at-requires-4 c κs = search needs
+blank-column-requires-4 : tie.Need-blank-column-requires-4
+blank-column-requires-4 c κs = search needs
 
 returns-4 : tie.Need-returns-4
-returns-4 c = rw (sym (c .before .before .before .before .before .before .before .blank-at .ensures) ∙ not-false _ (c .before .before .before .before .before .before .if1 .left), sym (c .before .before .before .before .before .blank-at2 .ensures) ∙ not-false _ (c .before .before .before .before .if2 .left), sym (c .before .before .before .blank-at3 .ensures) ∙ not-false _ (c .before .before .if3 .left), sym (c .before .blank-at4 .ensures) ∙ not-true _ (c .if4 .taken)) refl
+returns-4 c = rw (sym (c .before .before .before .before .before .before .before .blank-column .ensures) ∙ not-false _ (c .before .before .before .before .before .before .if1 .left), sym (c .before .before .before .before .before .blank-column2 .ensures) ∙ not-false _ (c .before .before .before .before .if2 .left), sym (c .before .before .before .blank-column3 .ensures) ∙ not-false _ (c .before .before .if3 .left), sym (c .before .blank-column4 .ensures) ∙ not-true _ (c .if4 .taken)) refl
 
 rounds-else-blank-requires : tie.Need-rounds-else-blank-requires
-rounds-else-blank-requires c κs = tt
+rounds-else-blank-requires c κs = search needs
 
 returns-5 : tie.Need-returns-5
-returns-5 c = rw (sym (c .before .before .before .before .before .before .before .before .blank-at .ensures) ∙ not-false _ (c .before .before .before .before .before .before .before .if1 .left), sym (c .before .before .before .before .before .before .blank-at2 .ensures) ∙ not-false _ (c .before .before .before .before .before .if2 .left), sym (c .before .before .before .before .blank-at3 .ensures) ∙ not-false _ (c .before .before .before .if3 .left), sym (c .before .before .blank-at4 .ensures) ∙ not-false _ (c .before .if4 .left)) (c .rounds-else-blank .ensures)
+returns-5 c = rw (sym (c .before .before .before .before .before .before .before .before .blank-column .ensures) ∙ not-false _ (c .before .before .before .before .before .before .before .if1 .left), sym (c .before .before .before .before .before .before .blank-column2 .ensures) ∙ not-false _ (c .before .before .before .before .before .if2 .left), sym (c .before .before .before .before .blank-column3 .ensures) ∙ not-false _ (c .before .before .before .if3 .left), sym (c .before .before .blank-column4 .ensures) ∙ not-false _ (c .before .if4 .left)) (c .rounds-else-blank .ensures)
 
 pub player-else-blank-spec : {M : Type 1} → statement M
 player-else-blank-spec =
     tie.close
     (tie.spec
-    blank-at-requires
+    blank-column-requires
     returns
-    blank-at-requires-2
+    blank-column-requires-2
     returns-2
-    blank-at-requires-3
+    blank-column-requires-3
     returns-3
-    blank-at-requires-4
+    blank-column-requires-4
     returns-4
     rounds-else-blank-requires
     returns-5)
