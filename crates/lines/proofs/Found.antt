@@ -183,3 +183,10 @@ module _ {file : List ℕ} {at r : ℕ} (s : Stop file at (length file) r) where
 
       bad : all allowed (text ++ p .0 .text) ≡ false
       bad = all-same allowed text (p .0 .text) ∙ rw (p .4, s .there l) (and-false (all allowed text))
+
+-- ---- a CR at the place itself: an empty line
+pub cr-here : {file : List ℕ} {at : ℕ} → at < length file → getD file at 0 ≡ CR → CRFrom file at at
+cr-here l e = record { after = omega arith; within = omega arith; none-before = λ k p q _. absurd (omega arith); there = λ _. e }
+
+pub empty-clean : (file : List ℕ) (at : ℕ) → all allowed (take (at - at) (drop at file)) ≡ true
+empty-clean file at = let e : at - at ≡ 0 = omega arith in rw e refl

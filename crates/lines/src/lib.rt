@@ -2,8 +2,9 @@
 // what is left and the cursor after it. Promised: the lines found are those that the statement cuts the file into, with their terminators; a line passes
 // exactly where each of its bytes is allowed.
 ghost use mathlib.Core.Path.{_≡_};
-ghost use Prim.Native.Nat.{_≤_};
-ghost use lib.ListN.{length};
+ghost use mathlib.Core.Bool.{true, not};
+ghost use Prim.Native.Nat.{_-_, _≤_, _<_};
+ghost use lib.ListN.{length, take, drop};
 ghost use Rattle.kit.specs.Lists.{all};
 ghost use Rattle.law.specs.Sizes.{mostFile};
 ghost use Rattle.law.specs.Lines.{allowed};
@@ -85,6 +86,13 @@ fn past_blocks(file: &[u8], at: usize) -> usize
     i
 }
 
+// Whether a byte is not allowed: the same test with an exit, for bytes that are taken one by one.
+fn is_stop(c: u8) -> bool
+    ensures { λ r. ⌜ not r ≡ allowed c ⌝ }
+{
+    c < 32 || c == 127
+}
+
 // The first of some bytes that is not allowed, or their end.
 fn stop_within(file: &[u8], at: usize, to: usize) -> usize
     requires { ⌜ (at ≤ to) × (to ≤ length (now file)) ⌝ }
@@ -92,7 +100,7 @@ fn stop_within(file: &[u8], at: usize, to: usize) -> usize
 {
     let mut i = at;
     while i < to {
-        if !is_allowed(file[i]) {
+        if is_stop(file[i]) {
             return i;
         }
         i += 1;
@@ -117,6 +125,33 @@ fn stop_from(file: &[u8], at: usize) -> usize
     stop_within(file, at, file.len())
 }
 
+// The line of allowed bytes from a place up to its CR, with the LF after that if there is one.
+fn whole(file: &[u8], from: usize, to: usize) -> Step
+    requires { ⌜ (to < length (now file)) × (length (now file) ≤ mostFile) × CRFrom (now file) from to × (all allowed (take (to - from) (drop from (now file))) ≡ true) ⌝ }
+    ensures { λ r. ⌜ StepMeans (now (file .entry)) from r ⌝ }
+{
+    let after = to + 1;
+    if file.len() <= after {
+        return Step::Whole {
+            from,
+            to,
+            next: Cursor { at: after },
+        };
+    }
+    if file[after] == LF {
+        return Step::Whole {
+            from,
+            to,
+            next: Cursor { at: after + 1 },
+        };
+    }
+    Step::Whole {
+        from,
+        to,
+        next: Cursor { at: after },
+    }
+}
+
 impl Cursor {
     // The start of a file.
     pub fn new() -> Cursor
@@ -125,6 +160,7 @@ impl Cursor {
         Cursor { at: 0 }
     }
 
+    // The line at the cursor. An empty one is told at once, since a file may have many.
     pub fn next_line(self, file: &[u8]) -> Step
         requires { ⌜ length (now file) ≤ mostFile ⌝ }
         ensures { λ r. ⌜ StepMeans (now (file .entry)) (self .at) r ⌝ }
@@ -133,6 +169,9 @@ impl Cursor {
         if file.len() <= at {
             return Step::Done;
         }
+        if file[at] == CR {
+            return whole(file, at, at);
+        }
         let to = stop_from(file, at);
         if file.len() <= to {
             return Step::Broken;
@@ -140,25 +179,6 @@ impl Cursor {
         if file[to] != CR {
             return Step::Foul;
         }
-        let after = to + 1;
-        if file.len() <= after {
-            return Step::Whole {
-                from: at,
-                to,
-                next: Cursor { at: after },
-            };
-        }
-        if file[after] == LF {
-            return Step::Whole {
-                from: at,
-                to,
-                next: Cursor { at: after + 1 },
-            };
-        }
-        Step::Whole {
-            from: at,
-            to,
-            next: Cursor { at: after },
-        }
+        whole(file, at, to)
     }
 }

@@ -1,8 +1,9 @@
 -- A line of allowed bytes that has its terminator: 5, or what its kind does. Assumes nothing.
 use mathlib.Core.Path.{_≡_, refl, sym, ap, _∙_}
 use mathlib.Core.Bool.{true}
-use mathlib.Core.List.{List}
+use mathlib.Core.List.{List, [], _∷_}
 use Prim.Native.Nat.{ℕ, _+_, _≤_, _<_}
+use native.Mathlib.Omega.{arith}
 use lib.ListN.{length}
 use borrow.Author.Tests.{lt-ltb, le-ltb}
 use Rattle.kit.specs.Lists.{all}
@@ -16,6 +17,10 @@ use Rattle.runs.specs.Lined.{lineOf, Skipped}
 pub passed-kind : (text : List ℕ) → isPassed text ≡ true → kindOf text ≡ passed-over
 unfolding kindOf
 passed-kind text e = rw e refl
+
+pub empty-skipped : (text : List ℕ) → length text ≡ 0 → Skipped text
+empty-skipped [] e = record { short = omega arith; passed = passed-kind [] refl }
+empty-skipped (c ∷ l) e = absurd (omega (arith, e))
 
 module _ (text : List ℕ) (end : End) (s : State) where
   module _ (e : all allowed text ≡ true) where

@@ -1,10 +1,10 @@
 -- `lines::stop_within` meets its contract. The loop's invariant: every byte up to i is allowed. Assumes nothing.
-use mathlib.Core.Path.{sym, _∙_}
+use mathlib.Core.Path.{sym, ap, _∙_}
+use mathlib.Core.Bool.{not}
 use Prim.Native.Nat.{_-_, _≤_}
 use native.Mathlib.Omega.{arith}
 use denote.Ref.{now}
 use borrow.Author.Needs.{needs}
-use borrow.Author.Tests.{not-true, not-false}
 use Rattle.lines.specs.Step.{Clean}
 use Rattle.lines.proofs.Found.{clean-more}
 use Rattle.lines.proofs.stop_within.Statement.{statement}
@@ -19,16 +19,16 @@ abbrev μ-loop : tie.MeasureT-loop
 loop-holds : tie.Need-loop-holds Inv-loop μ-loop
 loop-holds c = (search needs, search needs, λ k l m. absurd (omega arith))
 
-shared-slice-read-is-allowed : tie.Need-shared-slice-read-is-allowed Inv-loop μ-loop
-shared-slice-read-is-allowed c = search needs
+shared-slice-read-is-stop : tie.Need-shared-slice-read-is-stop Inv-loop μ-loop
+shared-slice-read-is-stop c = search needs
 
-is-allowed-requires : tie.Need-is-allowed-requires Inv-loop μ-loop
-is-allowed-requires c κs = search needs
+is-stop-requires : tie.Need-is-stop-requires Inv-loop μ-loop
+is-stop-requires c κs = search needs
 
 returns : tie.Need-returns Inv-loop μ-loop
 returns c =
     let l = c .before .before .before .before .loop in
-    record { after = l .inv .0; within = l .inv .1; clean = l .inv .2; there = λ _. sym (c .before .is-allowed .ensures) ∙ not-true _ (c .if1 .taken) }
+    record { after = l .inv .0; within = l .inv .1; clean = l .inv .2; there = λ _. sym (c .before .is-stop .ensures) ∙ ap not (c .if1 .taken) }
 
 add-i : tie.Need-add-i Inv-loop μ-loop
 add-i c = search needs
@@ -40,7 +40,7 @@ loop-again : tie.Need-loop-again Inv-loop μ-loop
 loop-again c =
     let l = c .before .before .before .before .loop in
     let a = c .before .before .before .before .before .before .args in
-    (search needs, search needs, clean-more (now (a .file)) (a .at) (l .i) (l .inv .2) (sym (c .before .is-allowed .ensures) ∙ not-false _ (c .if1 .left)))
+    (search needs, search needs, clean-more (now (a .file)) (a .at) (l .i) (l .inv .2) (sym (c .before .is-stop .ensures) ∙ ap not (c .if1 .left)))
 
 returns-2 : tie.Need-returns-2 Inv-loop μ-loop
 returns-2 c =
@@ -54,8 +54,8 @@ stop-within-spec =
     Inv-loop
     μ-loop
     loop-holds
-    shared-slice-read-is-allowed
-    is-allowed-requires
+    shared-slice-read-is-stop
+    is-stop-requires
     returns
     add-i
     loop-less
