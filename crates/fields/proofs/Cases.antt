@@ -48,13 +48,35 @@ no-number (law.value m) (number.Value n) e h = absurd (miss (1 ∷ 2 ∷ []) 0 t
 no-number (law.value m) number.Blank e h = blanks-no-number e
 no-number (law.value m) number.Bad e h = never (sym e)
 
+-- the same of `let Number::Blank = r else`
+abbrev pub NotBlank : Number → Type 0
+NotBlank r = OneOf (0 ∷ 2 ∷ []) (tagOf the-type r)
+
+-- what each answer shows
+pub is-value : (o : law.Number) (n : ℕ) → orBlank o ≡ says (some n) → o ≡ law.value n
+is-value (law.value m) n e = let u : m ≡ n = cc in ap law.value u
+is-value law.none-there n e = blanks-no-number e
+is-value law.bad n e = never (sym e)
+
+pub is-blank : (o : law.Number) → orBlank o ≡ says none → o ≡ law.none-there
+is-blank (law.value n) e = blanks-no-number (sym e)
+is-blank law.none-there e = refl
+is-blank law.bad e = never (sym e)
+
+pub is-bad : (o : law.Number) (r : Number) → numberSays r ≡ orBlank o → NotValue r → NotBlank r → o ≡ law.bad
+is-bad o (number.Value n) e h k = absurd (miss (1 ∷ 2 ∷ []) 0 tt h)
+is-bad o number.Blank e h k = absurd (miss (0 ∷ 2 ∷ []) 1 tt k)
+is-bad (law.value n) number.Bad e h k = never (sym e)
+is-bad law.none-there number.Bad e h k = never (sym e)
+is-bad law.bad number.Bad e h k = refl
+
 -- a blank one taken as 0
 pub blank-is-0 : (o : law.Number) → orBlank o ≡ says none → says (some 0) ≡ orBadField (to some (law.numberOr0 o))
 blank-is-0 (law.value n) e = blanks-no-number (sym e)
 blank-is-0 law.none-there e = refl
 blank-is-0 law.bad e = never (sym e)
 
-pub else-itself : (o : law.Number) (r : Number) → numberSays r ≡ orBlank o → OneOf (0 ∷ 2 ∷ []) (tagOf the-type r) → numberSays r ≡ orBadField (to some (law.numberOr0 o))
+pub else-itself : (o : law.Number) (r : Number) → numberSays r ≡ orBlank o → NotBlank r → numberSays r ≡ orBadField (to some (law.numberOr0 o))
 else-itself (law.value n) r e h = e
 else-itself law.bad r e h = e
 else-itself law.none-there (number.Value n) e h = blanks-no-number (sym e)

@@ -125,10 +125,9 @@ fn worth(a: u8, b: u8, c: u8, d: u8) -> u32
     digit_value(a) * 1000 + digit_value(b) * 100 + digit_value(c) * 10 + digit_value(d)
 }
 
-// A number field of four columns or blank, which is 0, from its bytes: for a caller that has them at hand. A zero in place of a blank leaves the number as
-// it is.
-pub fn number_or_blank_of(a: u8, b: u8, c: u8, d: u8) -> Number
-    ensures { λ r. ⌜ numberSays r ≡ orBadField (to some (numberOr0 (numberOf (a ∷ b ∷ c ∷ d ∷ [])))) ⌝ }
+// A number field of four columns from its bytes, for a caller that has them at hand. A zero in place of a blank leaves the number as it is.
+pub fn number_of(a: u8, b: u8, c: u8, d: u8) -> Number
+    ensures { λ r. ⌜ numberSays r ≡ orBlank (numberOf (a ∷ b ∷ c ∷ d ∷ [])) ⌝ }
 {
     if a != b' ' {
         if !are_digits(a, b, c, d) {
@@ -154,7 +153,7 @@ pub fn number_or_blank_of(a: u8, b: u8, c: u8, d: u8) -> Number
         }
         return Number::Value(worth(b'0', b'0', b'0', d));
     }
-    Number::Value(0)
+    Number::Blank
 }
 
 // Whether a number is 1 to the most that there may be.

@@ -17,7 +17,7 @@ use Rattle.law.proofs.FieldsRead as law
 use Rattle.law.proofs.RecordsRead.{isUsed, slotOf, slotsOf}
 use Rattle.fields.proofs.Columns.{getD-any, cells-cons, cells-one, cells-four}
 use Rattle.fields.proofs.Turns.{and-true}
-use Rattle.fields.proofs.Fours.{last-blank}
+use Rattle.fields.proofs.Fours.{number-not-blank}
 use Rattle.fields.proofs.Cases.{standing, is-standing}
 use Rattle.kept_columns.proofs.KeptColumns.{gap}
 use Rattle.rows.specs.declared.Slots.{Slots}
@@ -53,31 +53,31 @@ module _ (row : List ℕ) (r : ℕ) (h : 1 ≤ r) where
       ∙ ap (λ (q : Option ℕ). when (c && d) (to (λ i. slotFrom i x y (isUsed row r)) q)) (ap (λ (l : List ℕ). law.numberOr0 (law.numberOf l)) id-there ∙ o-is)
 
 -- ---- the same by the line's bytes, of a line that has them all
-pub three-tests : (a b c : Bool) → (a && b) && c ≡ a && (b && (c && true))
-three-tests true true c = sym (and-true c)
-three-tests true false c = refl
-three-tests false b c = refl
+pub two-tests : (a b : Bool) → a && b ≡ a && (b && true)
+two-tests a b = ap (λ (v : Bool). a && v) (sym (and-true b))
+
+abbrev pub idBytes : List ℕ → ℕ → List ℕ
+idBytes row r = getD row (81 + 10 * r) 0 ∷ getD row (81 + 10 * r + 1) 0 ∷ getD row (81 + 10 * r + 2) 0 ∷ getD row (81 + 10 * r + 3) 0 ∷ []
 
 module _ (row : List ℕ) (r : ℕ) (h : 1 ≤ r) (h-most : r ≤ 20) (long : 289 ≤ length row) where
-  abbrev pub idBytes : List ℕ
-  idBytes = getD row (81 + 10 * r) 0 ∷ getD row (81 + 10 * r + 1) 0 ∷ getD row (81 + 10 * r + 2) 0 ∷ getD row (81 + 10 * r + 3) 0 ∷ []
-
   there : (k : ℕ) → k ≤ 7 → getD row (81 + 10 * r + k) blank ≡ getD row (81 + 10 * r + k) 0
   there k q = getD-any row (81 + 10 * r + k) blank 0 (omega arith)
 
-  id-bytes : cells row (81 + 10 * r) 4 ≡ idBytes
+  id-bytes : cells row (81 + 10 * r) 4 ≡ idBytes row r
   id-bytes = cells-four row (81 + 10 * r) ∙ (λ i. getD-any row (81 + 10 * r) blank 0 (omega arith) i ∷ there 1 (omega arith) i ∷ there 2 (omega arith) i ∷ there 3 (omega arith) i ∷ [])
 
   pub slot-read : (y : ℕ) (c d : Bool) (o : Option ℕ) → y ≡ capital (getD row (81 + 10 * r + 7) 0) → among (getD row (81 + 10 * r + 5) 0) slotColours ≡ c → among y slotResults ≡ d
-      → law.numberOr0 (law.numberOf idBytes) ≡ o → slotOf row r ≡ when (c && d) (to (λ i. slotFrom i (getD row (81 + 10 * r + 5) 0) y (isUsed row r)) o)
+      → law.numberOr0 (law.numberOf (idBytes row r)) ≡ o → slotOf row r ≡ when (c && d) (to (λ i. slotFrom i (getD row (81 + 10 * r + 5) 0) y (isUsed row r)) o)
   slot-read y c d o y-is c-is d-is o-is =
       slot-by row r h (getD row (81 + 10 * r + 5) 0) y c d o (sym (there 5 (omega arith))) (y-is ∙ ap capital (sym (there 7 (omega arith)))) c-is d-is (ap (λ (l : List ℕ). law.numberOr0 (law.numberOf l)) id-bytes ∙ o-is)
 
-  pub used-read : (n : ℕ) → law.numberOr0 (law.numberOf idBytes) ≡ some n
-      → not (all isBlank (getD row (81 + 10 * r + 3) 0 ∷ getD row (81 + 10 * r + 5) 0 ∷ getD row (81 + 10 * r + 7) 0 ∷ [])) ≡ isUsed row r
-  used-read n e =
-      sym (used-by row r h (isBlank (getD row (81 + 10 * r + 3) 0)) (isBlank (getD row (81 + 10 * r + 5) 0)) (isBlank (getD row (81 + 10 * r + 7) 0))
-      (ap (all isBlank) id-bytes ∙ last-blank (getD row (81 + 10 * r) 0 ∷ getD row (81 + 10 * r + 1) 0 ∷ getD row (81 + 10 * r + 2) 0 ∷ []) (getD row (81 + 10 * r + 3) 0) n e)
+  -- an id is a byte that is not blank; without one the colour and the result say it
+  pub used-id : (n : ℕ) → law.numberOf (idBytes row r) ≡ law.value n → isUsed row r ≡ true
+  used-id n e = used-by row r h false _ _ (ap (all isBlank) id-bytes ∙ number-not-blank (idBytes row r) n e) refl refl
+
+  pub used-else : law.numberOf (idBytes row r) ≡ law.none-there → not (all isBlank (getD row (81 + 10 * r + 5) 0 ∷ getD row (81 + 10 * r + 7) 0 ∷ [])) ≡ isUsed row r
+  used-else e =
+      sym (used-by row r h true (isBlank (getD row (81 + 10 * r + 5) 0)) (isBlank (getD row (81 + 10 * r + 7) 0)) (ap (all isBlank) id-bytes ∙ law.blank-sound (idBytes row r) e)
       (gap row (81 + 10 * r + 5) (omega arith)) (gap row (81 + 10 * r + 7) (omega arith)))
 
 -- ---- the rounds, of which the first i are read

@@ -74,21 +74,22 @@ fn is_slot_colour(c: u8) -> bool
     }
 }
 
+// 0 has an arm of its own: in one arm with 1 the two would be tested as a run, apart from the other bytes.
 fn is_slot_result(c: u8) -> bool
     ensures { λ r. ⌜ r ≡ among c slotResults ⌝ }
 {
     match c {
-        b'1' | b'=' | b'0' | b'W' | b'D' | b'L' | b'+' | b'-' | b'H' | b'F' | b'U' | b'Z' | b' ' =>
-            true,
+        b'0' => true,
+        b'1' | b'=' | b'W' | b'D' | b'L' | b'+' | b'-' | b'H' | b'F' | b'U' | b'Z' | b' ' => true,
         _ => false,
     }
 }
 
-// Whether a round has a byte that is not blank: of a number field or blank the last column says it.
-fn is_used(last: u8, colour: u8, code: u8) -> bool
-    ensures { λ r. ⌜ r ≡ not (all isBlank (last ∷ colour ∷ code ∷ [])) ⌝ }
+// Whether a round whose id is blank has a byte that is not.
+fn is_used(colour: u8, code: u8) -> bool
+    ensures { λ r. ⌜ r ≡ not (all isBlank (colour ∷ code ∷ [])) ⌝ }
 {
-    !((last == b' ') & (colour == b' ') & (code == b' '))
+    !((colour == b' ') & (code == b' '))
 }
 
 fn slot_of(line: &[u8], round: usize) -> Slot
@@ -105,12 +106,14 @@ fn slot_of(line: &[u8], round: usize) -> Slot
     if !is_slot_result(result) {
         return Slot::Bad;
     }
-    let last = line[at + 3];
-    let Number::Value(id) = fields::number_or_blank_of(line[at], line[at + 1], line[at + 2], last)
-    else {
-        return Slot::Bad;
+    let n = fields::number_of(line[at], line[at + 1], line[at + 2], line[at + 3]);
+    let Number::Value(id) = n else {
+        let Number::Blank = n else {
+            return Slot::Bad;
+        };
+        return Slot::Read(0, colour, result, is_used(colour, code));
     };
-    Slot::Read(id, colour, result, is_used(last, colour, code))
+    Slot::Read(id, colour, result, true)
 }
 
 fn no_slots() -> Slots

@@ -5,10 +5,11 @@ use mathlib.Core.Option.{none, some}
 use Prim.Native.Nat.{_+_, _*_}
 use lib.ListN.{getD}
 use borrow.Author.Tests.{not-true, not-false}
+use Rattle.law.proofs.FieldsRead.{numberOf, numberOr0}
 use Rattle.fields.specs.Said.{says, orBadField}
 use Rattle.fields.specs.Fields.{numberSays}
-use Rattle.fields.proofs.Cases.{found, not-found}
-use Rattle.rows.proofs.PlayerRounds.{slot-read, used-read}
+use Rattle.fields.proofs.Cases.{is-value, is-blank, is-bad}
+use Rattle.rows.proofs.PlayerRounds.{idBytes, slot-read, used-id, used-else}
 use borrow.Author.Needs.{needs}
 use Rattle.rows.proofs.slot_of.Statement.{statement}
 use Rattle.rows.proofs.slot_of.Tie as tie
@@ -50,38 +51,41 @@ returns-2 c =
     let a = c .before .before .before .before .before .before .before .before .args in
     sym (ap orBadField (slot-read (a .line .now) (a .round) (c .before .before .before .before .before .before .before .before .pre .0) (c .before .before .before .before .before .before .before .before .pre .1) (c .before .before .before .before .before .before .before .before .pre .2) (c .before .before .capital .result) true false _ (c .before .before .capital .ensures) (sym (c .before .before .before .before .before .is-slot-colour .ensures) ∙ not-false _ (c .before .before .before .before .if1 .left)) (sym (c .before .is-slot-result .ensures) ∙ not-true _ (c .if2 .taken)) refl))
 
-add-last : tie.Need-add-last
-add-last c = search needs
+shared-slice-read-number-of : tie.Need-shared-slice-read-number-of
+shared-slice-read-number-of c = search needs
 
-shared-slice-read-last : tie.Need-shared-slice-read-last
-shared-slice-read-last c = search needs
+add-number-of : tie.Need-add-number-of
+add-number-of c = search needs
 
-shared-slice-read-number-or-blank-of : tie.Need-shared-slice-read-number-or-blank-of
-shared-slice-read-number-or-blank-of c = search needs
+shared-slice-read-number-of-2 : tie.Need-shared-slice-read-number-of-2
+shared-slice-read-number-of-2 c = search needs
 
-add-number-or-blank-of : tie.Need-add-number-or-blank-of
-add-number-or-blank-of c = search needs
+add-number-of-2 : tie.Need-add-number-of-2
+add-number-of-2 c = search needs
 
-shared-slice-read-number-or-blank-of-2 : tie.Need-shared-slice-read-number-or-blank-of-2
-shared-slice-read-number-or-blank-of-2 c = search needs
+shared-slice-read-number-of-3 : tie.Need-shared-slice-read-number-of-3
+shared-slice-read-number-of-3 c = search needs
 
-add-number-or-blank-of-2 : tie.Need-add-number-or-blank-of-2
-add-number-or-blank-of-2 c = search needs
+add-number-of-3 : tie.Need-add-number-of-3
+add-number-of-3 c = search needs
 
-shared-slice-read-number-or-blank-of-3 : tie.Need-shared-slice-read-number-or-blank-of-3
-shared-slice-read-number-or-blank-of-3 c = search needs
+shared-slice-read-number-of-4 : tie.Need-shared-slice-read-number-of-4
+shared-slice-read-number-of-4 c = search needs
 
-number-or-blank-of-requires : tie.Need-number-or-blank-of-requires
-number-or-blank-of-requires c κs = tt
+number-of-requires : tie.Need-number-of-requires
+number-of-requires c κs = tt
 
-enum-known-id : tie.Need-enum-known-id
-enum-known-id c = search needs
+enum-known-n : tie.Need-enum-known-n
+enum-known-n c = search needs
+
+enum-told : tie.Need-enum-told
+enum-told c = search needs
 
 returns-3 : tie.Need-returns-3
 returns-3 c =
-    let a = c .before .before .before .before .before .before .before .before .before .before .before .before .before .before .args in
-    sym (ap orBadField (slot-read (a .line .now) (a .round) (c .before .before .before .before .before .before .before .before .before .before .before .before .before .before .pre .0) (c .before .before .before .before .before .before .before .before .before .before .before .before .before .before .pre .1) (c .before .before .before .before .before .before .before .before .before .before .before .before .before .before .pre .2) (c .before .before .before .before .before .before .before .before .capital .result) true true none (c .before .before .before .before .before .before .before .before .capital .ensures) (sym (c .before .before .before .before .before .before .before .before .before .before .before .is-slot-colour .ensures) ∙ not-false _ (c .before .before .before .before .before .before .before .before .before .before .if1 .left)) (sym (c .before .before .before .before .before .before .before .is-slot-result .ensures) ∙ not-false _ (c .before .before .before .before .before .before .if2 .left))
-    (not-found _ (c .before .number-or-blank-of .result) (c .before .number-or-blank-of .ensures) (c .match .keys2))))
+    let a = c .before .before .before .before .before .before .before .before .before .before .before .before .before .before .before .args in
+    let n-is = is-bad (numberOf (idBytes (a .line .now) (a .round))) (c .before .before .number-of .result) (c .before .before .number-of .ensures) (c .before .match .keys2) (c .match2 .keys2) in
+    sym (ap orBadField (slot-read (a .line .now) (a .round) (c .before .before .before .before .before .before .before .before .before .before .before .before .before .before .before .pre .0) (c .before .before .before .before .before .before .before .before .before .before .before .before .before .before .before .pre .1) (c .before .before .before .before .before .before .before .before .before .before .before .before .before .before .before .pre .2) (c .before .before .before .before .before .before .before .before .before .capital .result) true true none (c .before .before .before .before .before .before .before .before .before .capital .ensures) (sym (c .before .before .before .before .before .before .before .before .before .before .before .before .is-slot-colour .ensures) ∙ not-false _ (c .before .before .before .before .before .before .before .before .before .before .before .if1 .left)) (sym (c .before .before .before .before .before .before .before .before .is-slot-result .ensures) ∙ not-false _ (c .before .before .before .before .before .before .before .if2 .left)) (ap numberOr0 n-is)))
 
 is-used-requires : tie.Need-is-used-requires
 is-used-requires c κs = tt
@@ -89,10 +93,17 @@ is-used-requires c κs = tt
 returns-4 : tie.Need-returns-4
 returns-4 c =
     let a = c .before .before .before .before .before .before .before .before .before .before .before .before .before .before .before .before .before .args in
-    let id-is = found _ _ (sym (c .before .before .before .before .number-or-blank-of .ensures) ∙ ap numberSays (c .before .before .id .given .1)) in
-    ap (λ (u : Bool). says (record { id = c .before .before .id .given .0 .0; colour = getD (a .line .now) (81 + 10 * a .round + 5) 0; result = c .before .before .before .before .before .before .before .before .before .before .before .capital .result; used = u }))
-    (c .is-used .ensures ∙ used-read (a .line .now) (a .round) (c .before .before .before .before .before .before .before .before .before .before .before .before .before .before .before .before .before .pre .0) (c .before .before .before .before .before .before .before .before .before .before .before .before .before .before .before .before .before .pre .1) (c .before .before .before .before .before .before .before .before .before .before .before .before .before .before .before .before .before .pre .2) _ id-is)
-    ∙ sym (ap orBadField (slot-read (a .line .now) (a .round) (c .before .before .before .before .before .before .before .before .before .before .before .before .before .before .before .before .before .pre .0) (c .before .before .before .before .before .before .before .before .before .before .before .before .before .before .before .before .before .pre .1) (c .before .before .before .before .before .before .before .before .before .before .before .before .before .before .before .before .before .pre .2) (c .before .before .before .before .before .before .before .before .before .before .before .capital .result) true true (some _) (c .before .before .before .before .before .before .before .before .before .before .before .capital .ensures) (sym (c .before .before .before .before .before .before .before .before .before .before .before .before .before .before .is-slot-colour .ensures) ∙ not-false _ (c .before .before .before .before .before .before .before .before .before .before .before .before .before .if1 .left)) (sym (c .before .before .before .before .before .before .before .before .before .before .is-slot-result .ensures) ∙ not-false _ (c .before .before .before .before .before .before .before .before .before .if2 .left)) id-is))
+    let n-is = is-blank (numberOf (idBytes (a .line .now) (a .round))) (sym (c .before .before .before .before .number-of .ensures) ∙ ap numberSays (c .before .enum-told .given .1)) in
+    ap (λ (u : Bool). says (record { id = 0; colour = getD (a .line .now) (81 + 10 * a .round + 5) 0; result = c .before .before .before .before .before .before .before .before .before .before .before .capital .result; used = u })) (c .is-used .ensures ∙ used-else (a .line .now) (a .round) (c .before .before .before .before .before .before .before .before .before .before .before .before .before .before .before .before .before .pre .0) (c .before .before .before .before .before .before .before .before .before .before .before .before .before .before .before .before .before .pre .1) (c .before .before .before .before .before .before .before .before .before .before .before .before .before .before .before .before .before .pre .2) n-is)
+    ∙ sym (ap orBadField (slot-read (a .line .now) (a .round) (c .before .before .before .before .before .before .before .before .before .before .before .before .before .before .before .before .before .pre .0) (c .before .before .before .before .before .before .before .before .before .before .before .before .before .before .before .before .before .pre .1) (c .before .before .before .before .before .before .before .before .before .before .before .before .before .before .before .before .before .pre .2) (c .before .before .before .before .before .before .before .before .before .before .before .capital .result) true true (some 0) (c .before .before .before .before .before .before .before .before .before .before .before .capital .ensures) (sym (c .before .before .before .before .before .before .before .before .before .before .before .before .before .before .is-slot-colour .ensures) ∙ not-false _ (c .before .before .before .before .before .before .before .before .before .before .before .before .before .if1 .left)) (sym (c .before .before .before .before .before .before .before .before .before .before .is-slot-result .ensures) ∙ not-false _ (c .before .before .before .before .before .before .before .before .before .if2 .left)) (ap numberOr0 n-is)))
+
+returns-5 : tie.Need-returns-5
+returns-5 c =
+    let a = c .before .before .before .before .before .before .before .before .before .before .before .before .before .before .before .before .args in
+    let id = c .before .n .given .0 .0 in
+    let n-is = is-value (numberOf (idBytes (a .line .now) (a .round))) id (sym (c .before .before .before .number-of .ensures) ∙ ap numberSays (c .before .n .given .1)) in
+    ap (λ (u : Bool). says (record { id = id; colour = getD (a .line .now) (81 + 10 * a .round + 5) 0; result = c .before .before .before .before .before .before .before .before .before .before .capital .result; used = u })) (sym (used-id (a .line .now) (a .round) (c .before .before .before .before .before .before .before .before .before .before .before .before .before .before .before .before .pre .0) (c .before .before .before .before .before .before .before .before .before .before .before .before .before .before .before .before .pre .1) (c .before .before .before .before .before .before .before .before .before .before .before .before .before .before .before .before .pre .2) id n-is))
+    ∙ sym (ap orBadField (slot-read (a .line .now) (a .round) (c .before .before .before .before .before .before .before .before .before .before .before .before .before .before .before .before .pre .0) (c .before .before .before .before .before .before .before .before .before .before .before .before .before .before .before .before .pre .1) (c .before .before .before .before .before .before .before .before .before .before .before .before .before .before .before .before .pre .2) (c .before .before .before .before .before .before .before .before .before .before .capital .result) true true (some id) (c .before .before .before .before .before .before .before .before .before .before .capital .ensures) (sym (c .before .before .before .before .before .before .before .before .before .before .before .before .before .is-slot-colour .ensures) ∙ not-false _ (c .before .before .before .before .before .before .before .before .before .before .before .before .if1 .left)) (sym (c .before .before .before .before .before .before .before .before .before .is-slot-result .ensures) ∙ not-false _ (c .before .before .before .before .before .before .before .before .if2 .left)) (ap numberOr0 n-is)))
 
 pub slot-of-spec : {M : Type 1} → statement M
 slot-of-spec =
@@ -109,15 +120,17 @@ slot-of-spec =
     capital-requires
     is-slot-result-requires
     returns-2
-    add-last
-    shared-slice-read-last
-    shared-slice-read-number-or-blank-of
-    add-number-or-blank-of
-    shared-slice-read-number-or-blank-of-2
-    add-number-or-blank-of-2
-    shared-slice-read-number-or-blank-of-3
-    number-or-blank-of-requires
-    enum-known-id
+    shared-slice-read-number-of
+    add-number-of
+    shared-slice-read-number-of-2
+    add-number-of-2
+    shared-slice-read-number-of-3
+    add-number-of-3
+    shared-slice-read-number-of-4
+    number-of-requires
+    enum-known-n
+    enum-told
     returns-3
     is-used-requires
-    returns-4)
+    returns-4
+    returns-5)

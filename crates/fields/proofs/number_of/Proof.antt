@@ -1,10 +1,10 @@
--- `fields::number_or_blank_of` meets its contract: the first byte that is not blank says where the digits begin. Assumes nothing.
+-- `fields::number_of` meets its contract: the first byte that is not blank says where the digits begin. Assumes nothing.
 use mathlib.Core.Path.{sym, _∙_}
 use mathlib.Core.List.{[], _∷_}
 use borrow.Author.Tests.{not-true, not-false}
 use Rattle.fields.proofs.Fours.{not-digits, their-worth, from-first, from-second, from-third, from-fourth, nowhere}
-use Rattle.fields.proofs.number_or_blank_of.Statement.{statement}
-use Rattle.fields.proofs.number_or_blank_of.Tie as tie
+use Rattle.fields.proofs.number_of.Statement.{statement}
+use Rattle.fields.proofs.number_of.Tie as tie
 
 are-digits-requires : tie.Need-are-digits-requires
 are-digits-requires c κs = tt
@@ -75,8 +75,8 @@ returns-9 c =
     let a = c .before .before .before .before .args in
     nowhere (a .a) (a .b) (a .c) (a .d) (c .before .before .before .if1 .left) (c .before .before .if3 .left) (c .before .if5 .left) (c .if7 .left)
 
-pub number-or-blank-of-spec : {M : Type 1} → statement M
-number-or-blank-of-spec =
+pub number-of-spec : {M : Type 1} → statement M
+number-of-spec =
     tie.close
     (tie.spec
     are-digits-requires
