@@ -7,9 +7,7 @@ ghost use lib.Seq.{paste};
 ghost use Rattle.kit.specs.Table.{Holds};
 ghost use Rattle.law.specs.Columns.{width};
 ghost use Rattle.law.specs.Players.{keptField};
-
-// "The 70 columns 10-79 are kept byte by byte."
-pub const KEPT_COLUMNS: usize = 70;
+use types::KEPT_COLUMNS;
 
 // Zero in the first n cells.
 pub fn zero_numbers(t: &mut [u32], n: usize)

@@ -23,13 +23,12 @@ ghost use Rattle.checks.specs.Results.{entry, isPair, areSmall};
 ghost use Rattle.checks.specs.Found.{asFound};
 ghost use Rattle.checks.specs.Index.{IndexOf, LowStarts, asPlaced};
 ghost use Rattle.checks.specs.Laws.{asLaw, four, Long, Indexed, IsIndex};
-use tables::MOST_ROUNDS;
 use types::Acceleration;
+use types::MOST_ACCELERATIONS;
+use types::MOST_ROUNDS;
+use types::MOST_START;
 use types::Place;
 use types::StartNumber;
-
-// Acceleration records are at most as many.
-pub const MOST_ACCELERATIONS: usize = 32;
 
 // The turn, the player or the record that a search found.
 pub enum Found {
@@ -330,9 +329,6 @@ pub fn first_wrong_sum(
     }
     Found::Nothing
 }
-
-// Start numbers are at most 9999.
-const MOST_START: u32 = 9999;
 
 // The index of the start numbers has a cell for each: the place of its player plus one, or 0.
 pub const START_CELLS: usize = MOST_START as usize + 1;

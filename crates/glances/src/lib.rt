@@ -15,7 +15,7 @@ ghost use Rattle.checks.specs.Laws.{four, Long, Indexed, IsIndex};
 ghost use Rattle.glances.specs.Glance.{Answered, Fits, Opposite, KeepsEntry, KeepsRow, KeepsRows, Noted, OnceU};
 use checks::Placed;
 use checks::START_CELLS;
-use tables::MOST_ROUNDS;
+use types::MOST_ROUNDS;
 use types::Place;
 use types::StartNumber;
 

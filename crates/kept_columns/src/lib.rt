@@ -1,6 +1,6 @@
 // The 70 columns 10-79 of a 001 line, which are kept byte by byte: taken from the line, and whether they keep to their rules.
-use cells::KEPT_COLUMNS;
 use fields::Number;
+use types::KEPT_COLUMNS;
 ghost use mathlib.Core.Path.{_≡_};
 ghost use mathlib.Core.List.{[], _∷_};
 ghost use Prim.Native.Nat.{_≤_, _<_};

@@ -20,18 +20,18 @@ ghost use Rattle.texts.specs.Kept.{Told};
 ghost use Rattle.readings.specs.Good.{GoodAnswer, GoodReading};
 ghost use Rattle.lawful.specs.Given.{tablesOf};
 ghost use Rattle.lawful.specs.Parts.{Own, OwnRest, EntriesRest, TextIs, RecordsAre, Together};
-use cells::KEPT_COLUMNS;
 use checks::Found;
 use checks::LawKind;
-use checks::MOST_ACCELERATIONS;
 use checks::START_CELLS;
-use records::MOST_POINTS;
-use tables::KEPT;
-use tables::MOST_ROUNDS;
-use tables::PLAYERS;
-use tables::TEXT;
 use types::Acceleration;
 use types::Answer;
+use types::KEPT;
+use types::KEPT_COLUMNS;
+use types::MOST_ACCELERATIONS;
+use types::MOST_PLAYERS;
+use types::MOST_POINTS;
+use types::MOST_ROUNDS;
+use types::MOST_TEXT;
 
 // The scoring values, one for each of W D L A P X.
 const VALUES: usize = 6;
@@ -65,10 +65,10 @@ fn is_accepted(answer: Answer) -> bool
     let values = answer.values;
     let players = answer.players as usize;
     let zero = (answer.number == 0) & (line.0 == 0) & (answer.round == 0);
-    let some = (1 <= players) & (players <= PLAYERS);
+    let some = (1 <= players) & (players <= MOST_PLAYERS);
     let rounds = answer.rounds as usize <= MOST_ROUNDS;
     let accelerations = answer.accelerations as usize <= MOST_ACCELERATIONS;
-    let text = answer.text <= TEXT;
+    let text = answer.text <= MOST_TEXT;
     let colour = is_colour(answer.colour);
     let small = are_small(values);
     zero & some & rounds & accelerations & text & colour & small
@@ -91,9 +91,9 @@ fn own_unused(starts: &[u32], points: &[u32], ranks: &[u32], kept: &[u8], n: usi
     requires { ⌜ (n ≤ mostPlayers) × (mostPlayers ≤ length (now starts)) × (mostPlayers ≤ length (now points)) × (mostPlayers ≤ length (now ranks)) × (keptCells ≤ length (now kept)) ⌝ }
     ensures { λ r. ⌜ Told (OwnRest n (now (starts .entry)) (now (points .entry)) (now (ranks .entry)) (now (kept .entry))) r ⌝ }
 {
-    let started = held::numbers_unused(starts, n, PLAYERS);
-    let pointed = held::numbers_unused(points, n, PLAYERS);
-    let ranked = held::numbers_unused(ranks, n, PLAYERS);
+    let started = held::numbers_unused(starts, n, MOST_PLAYERS);
+    let pointed = held::numbers_unused(points, n, MOST_PLAYERS);
+    let ranked = held::numbers_unused(ranks, n, MOST_PLAYERS);
     let columned = held::bytes_unused(kept, n * KEPT_COLUMNS, KEPT);
     started & pointed & ranked & columned
 }
@@ -115,7 +115,7 @@ fn text_is(text: &[u8], n: usize) -> bool
     ensures { λ r. ⌜ Told (TextIs n (now (text .entry))) r ⌝ }
 {
     let kept = texts::is_kept_text(text, n);
-    let rest = held::bytes_unused(text, n, TEXT);
+    let rest = held::bytes_unused(text, n, MOST_TEXT);
     kept & rest
 }
 

@@ -1,6 +1,8 @@
 // The acceleration records as they are lent: a list of structs, one a 250 record, in file order. These few functions are the only ones that touch it; all else
 // works on an array by value. Each is proved by a walk of its code by hand. Promised: which cells are written and read.
 use types::Acceleration;
+use types::MOST_ACCELERATIONS;
+use types::NO_ACCELERATION;
 ghost use mathlib.Core.Path.{_≡_};
 ghost use Prim.Native.Nat.{_≤_};
 ghost use lib.ListN.{length, take, drop};
@@ -8,20 +10,8 @@ ghost use mathlib.Core.List.{_++_};
 ghost use Rattle.law.specs.Sizes.{mostAccelerations};
 ghost use Rattle.lent_records.specs.Taking.{startOf};
 
-// As many records as the box carries.
-pub const ACCELERATIONS: usize = 32;
-
-// No acceleration record.
-const NO_ACCELERATION: Acceleration = Acceleration {
-    points: 0,
-    first_round: 0,
-    last_round: 0,
-    first_start: 0,
-    last_start: 0,
-};
-
 // The first n cells become the first n of all; the others stay.
-pub fn fill(records: &mut [Acceleration], all: [Acceleration; ACCELERATIONS], n: usize)
+pub fn fill(records: &mut [Acceleration], all: [Acceleration; MOST_ACCELERATIONS], n: usize)
     requires { ⌜ (n ≤ length (now records)) × (n ≤ mostAccelerations) ⌝ }
     ensures { λ _. ⌜ now (records .exit) ≡ take n all ++ drop n (now (records .entry)) ⌝ }
 {
@@ -35,9 +25,9 @@ pub fn fill(records: &mut [Acceleration], all: [Acceleration; ACCELERATIONS], n:
 // The first n cells by value, before what follows the first n of blank.
 pub fn taken(
     records: &[Acceleration],
-    blank: [Acceleration; ACCELERATIONS],
+    blank: [Acceleration; MOST_ACCELERATIONS],
     n: usize,
-) -> [Acceleration; ACCELERATIONS]
+) -> [Acceleration; MOST_ACCELERATIONS]
     requires { ⌜ (n ≤ length (now records)) × (n ≤ mostAccelerations) ⌝ }
     ensures { λ r. ⌜ r ≡ take n (now (records .entry)) ++ drop n blank ⌝ }
 {
@@ -52,7 +42,7 @@ pub fn taken(
 
 // What taking starts from: blank records, and how many are to be taken: all that the box carries, or none where fewer are lent.
 pub struct Start {
-    pub blank: [Acceleration; ACCELERATIONS],
+    pub blank: [Acceleration; MOST_ACCELERATIONS],
     pub n: usize,
 }
 
@@ -60,12 +50,12 @@ pub struct Start {
 pub fn starting(lent: usize) -> Start
     ensures { λ r. ⌜ r ≡ startOf lent ⌝ }
 {
-    let blank = [NO_ACCELERATION; ACCELERATIONS];
-    if lent < ACCELERATIONS {
+    let blank = [NO_ACCELERATION; MOST_ACCELERATIONS];
+    if lent < MOST_ACCELERATIONS {
         return Start { blank, n: 0 };
     }
     Start {
         blank,
-        n: ACCELERATIONS,
+        n: MOST_ACCELERATIONS,
     }
 }

@@ -9,10 +9,8 @@ ghost use Rattle.kit.specs.Lists.{all};
 ghost use Rattle.law.specs.Sizes.{mostFile};
 ghost use Rattle.law.specs.Lines.{allowed};
 ghost use Rattle.lines.specs.Step.{CRFrom, Clean, Stop, StepMeans};
-
-const CR: u8 = 13;
-
-const LF: u8 = 10;
+use types::CR;
+use types::LF;
 
 // How many bytes are tested at once, and how many one by one before that.
 const BLOCK: usize = 32;

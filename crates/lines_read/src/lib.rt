@@ -12,27 +12,19 @@ ghost use Rattle.steps.specs.Counts.{asCount, Small};
 ghost use Rattle.lines_read.specs.Core.{refusedCore, acceptedCore, LinesRead};
 use checks::START_CELLS;
 use scorings::Scoring;
-use steps::ACCELERATIONS;
 use steps::Counts;
 use steps::TEXT_CODES;
 use types::Acceleration;
 use types::Answer;
 use types::LineNumber;
-
-// No acceleration record.
-const NO_ACCELERATION: Acceleration = Acceleration {
-    points: 0,
-    first_round: 0,
-    last_round: 0,
-    first_start: 0,
-    last_start: 0,
-};
+use types::MOST_ACCELERATIONS;
+use types::NO_ACCELERATION;
 
 // What the core of a reading answers: the answer, the acceleration records, and how many of them are to be filled into the lent list: all, or none where a
 // table is too short.
 pub struct CoreAnswer {
     pub answer: Answer,
-    pub records: [Acceleration; ACCELERATIONS],
+    pub records: [Acceleration; MOST_ACCELERATIONS],
     pub fill: usize,
 }
 
@@ -46,7 +38,7 @@ fn no_counts() -> Counts
         players: 0,
         accelerations: 0,
         text: 0,
-        records: [NO_ACCELERATION; ACCELERATIONS],
+        records: [NO_ACCELERATION; MOST_ACCELERATIONS],
         seen: [false; TEXT_CODES],
         stated: false,
         rounds: 0,
@@ -72,7 +64,7 @@ pub fn refused(number: u32, line: LineNumber, round: u32, fill: usize) -> CoreAn
             colour: 0,
             values: [0; 6],
         },
-        records: [NO_ACCELERATION; ACCELERATIONS],
+        records: [NO_ACCELERATION; MOST_ACCELERATIONS],
         fill,
     }
 }
@@ -97,7 +89,7 @@ fn accepted(c: Counts, rounds: u32) -> CoreAnswer
             values,
         },
         records,
-        fill: ACCELERATIONS,
+        fill: MOST_ACCELERATIONS,
     }
 }
 
@@ -137,7 +129,7 @@ pub fn read_lines(
     );
     if ran.fault != 0 {
         let line = ran.line;
-        return refused(ran.fault, line, 0, ACCELERATIONS);
+        return refused(ran.fault, line, 0, MOST_ACCELERATIONS);
     }
     let c = ran.counts;
     let done = judges::finish(
@@ -153,7 +145,7 @@ pub fn read_lines(
     let verdict = done.verdict;
     if verdict.number != 0 {
         let line = verdict.line;
-        return refused(verdict.number, line, verdict.round, ACCELERATIONS);
+        return refused(verdict.number, line, verdict.round, MOST_ACCELERATIONS);
     }
     accepted(c, done.rounds)
 }

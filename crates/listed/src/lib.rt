@@ -8,36 +8,29 @@ use libc::STDOUT_FILENO;
 use listing::ANSWER_LINE;
 use listing::LISTING;
 use types::Answer;
+use types::ENTRIES;
+use types::KEPT;
+use types::LINES;
+use types::MOST_ACCELERATIONS;
+use types::MOST_PLAYERS;
+use types::MOST_TEXT;
 
 // One byte more than the largest file, so that a larger one is seen to be larger: no more is read of it.
 pub const MOST_READ: usize = 65536;
-
-// The sizes of the lent tables.
-pub const PLAYERS: usize = 200;
-
-pub const ENTRIES: usize = 4000;
-
-pub const KEPT: usize = 14000;
-
-pub const TEXT: usize = 2048;
-
-pub const LINES: usize = 232;
-
-pub const ACCELERATIONS: usize = 32;
 
 // The bytes of a file's listing, from the first byte of `out` on, and how many there are.
 pub fn list_file(file: &[u8], out: &mut [u8; LISTING]) -> usize
     ensures { λ r. ⌜ Counts r (now (out .exit)) ⌝ }
     ensures { λ r. ⌜ Lists (now (file .entry)) (now (out .entry)) r (now (out .exit)) ⌝ }
 {
-    let mut starts = [0u32; PLAYERS];
-    let mut points = [0u32; PLAYERS];
-    let mut ranks = [0u32; PLAYERS];
+    let mut starts = [0u32; MOST_PLAYERS];
+    let mut points = [0u32; MOST_PLAYERS];
+    let mut ranks = [0u32; MOST_PLAYERS];
     let mut kept = [0u8; KEPT];
     let mut opponents = [0u32; ENTRIES];
     let mut colours = [0u8; ENTRIES];
     let mut results = [0u8; ENTRIES];
-    let mut text = [0u8; TEXT];
+    let mut text = [0u8; MOST_TEXT];
     let mut lines = [0u32; LINES];
     let core = reader::read_core(
         file,
@@ -50,7 +43,7 @@ pub fn list_file(file: &[u8], out: &mut [u8; LISTING]) -> usize
         &mut results,
         &mut text,
         &mut lines,
-        ACCELERATIONS,
+        MOST_ACCELERATIONS,
     );
     let answer = core.answer;
     listing::put_listing(

@@ -11,6 +11,7 @@ ghost use Rattle.law.specs.Writing as writing;
 ghost use Rattle.listing.specs.Put.{Put};
 ghost use Rattle.listing.specs.Listing.{six, Long, decimal, field, entryField, entryFields, standing, playerLine, playerLines, answerLine, listing, mostPlayerLine, mostAnswerLine, mostListing, refusedListing};
 use types::Answer;
+use types::LF;
 use types::Place;
 
 // The most digits of a number.
@@ -24,8 +25,6 @@ pub const ANSWER_LINE: usize = 42;
 const PLAYER_LINE: usize = 293;
 
 const TAB: u8 = 9;
-
-const LF: u8 = 10;
 
 // One byte.
 fn put_byte(out: &mut [u8], at: usize, byte: u8) -> usize

@@ -19,12 +19,10 @@ use checks::START_CELLS;
 use rows::Row;
 use steps::Counts;
 use steps::Stepped;
-use tables::MOST_ROUNDS;
 use types::LineNumber;
+use types::MOST_PLAYERS;
+use types::MOST_ROUNDS;
 use types::Place;
-
-// The most players.
-const PLAYERS: usize = 200;
 
 // What is stored of an id, and of a colour or result: 0 where the round is wholly blank.
 fn id_stored(id: u32, used: bool) -> u32
@@ -154,7 +152,7 @@ pub fn step_player(
             counts: c,
         };
     };
-    if PLAYERS < c.players + 1 {
+    if MOST_PLAYERS < c.players + 1 {
         return Stepped {
             fault: 9,
             counts: c,

@@ -20,12 +20,10 @@ use checks::Found;
 use types::Acceleration;
 use types::Answer;
 use types::LineNumber;
+use types::MOST_ACCELERATIONS;
 use types::Place;
 use types::Score;
 use types::StartNumber;
-
-// The most acceleration records.
-const ACCELERATIONS: usize = 32;
 
 // Whether a record covers a start number in a round.
 fn covers(a: Acceleration, start: StartNumber, round: u32) -> bool
@@ -38,7 +36,7 @@ fn covers(a: Acceleration, start: StartNumber, round: u32) -> bool
 
 // The first of n records that does.
 fn first_covering(
-    records: [Acceleration; ACCELERATIONS],
+    records: [Acceleration; MOST_ACCELERATIONS],
     n: usize,
     start: StartNumber,
     round: u32,
@@ -58,7 +56,7 @@ fn first_covering(
 
 // The points that n records add for a start number in a round: 0 if none covers it.
 fn acceleration_for(
-    records: [Acceleration; ACCELERATIONS],
+    records: [Acceleration; MOST_ACCELERATIONS],
     n: usize,
     start: StartNumber,
     round: u32,
@@ -104,7 +102,7 @@ pub fn ask_core(
     colours: &[u8],
     results: &[u8],
     text: &[u8],
-    all: [Acceleration; ACCELERATIONS],
+    all: [Acceleration; MOST_ACCELERATIONS],
     accelerations: usize,
     place: Place,
     round: u32,

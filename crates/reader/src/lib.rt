@@ -2,11 +2,9 @@
 ghost use Rattle.tables.specs.Lent.{before, after};
 ghost use Rattle.reader.specs.Core.{CoreReads};
 use lines_read::CoreAnswer;
-use steps::ACCELERATIONS;
 use types::LineNumber;
-
-// The largest file.
-const MOST_FILE: usize = 65535;
+use types::MOST_ACCELERATIONS;
+use types::MOST_FILE;
 
 // A reading: the file, the nine lent tables of numbers, and how many acceleration records are lent.
 pub fn read_core(
@@ -51,7 +49,7 @@ pub fn read_core(
         lines,
     );
     if MOST_FILE < file.len() {
-        return lines_read::refused(2, LineNumber(0), 0, ACCELERATIONS);
+        return lines_read::refused(2, LineNumber(0), 0, MOST_ACCELERATIONS);
     }
     let done = lines_read::read_lines(
         file,

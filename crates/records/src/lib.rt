@@ -4,6 +4,8 @@ use fields::Leading;
 use fields::Number;
 use fields::Points;
 use types::Acceleration;
+use types::MOST_POINTS;
+use types::MOST_START;
 ghost use mathlib.Core.Path.{_≡_};
 ghost use mathlib.Core.List.{[], _∷_};
 ghost use Prim.Native.Nat.{_≤_};
@@ -21,13 +23,7 @@ ghost use Rattle.law.proofs.RecordsRead.{textOf, roundsOfRow, colourOf, acceler
 ghost use Rattle.fields.specs.Said.{orBadField};
 ghost use Rattle.records.specs.Records.{kindSays, orNotListed, textSays, roundsSays, initialSays, spanIn, spanSays, acceleratedSays};
 
-pub const MOST_ROUNDS: u32 = 20;
-
-pub const MOST_POINTS: u32 = 999;
-
-pub const MOST_START: u32 = 9999;
-
-pub const MOST_RANK: u32 = 9999;
+const MOST_ROUNDS: u32 = types::MOST_ROUNDS as u32;
 
 // What a line is, by its code.
 pub enum Kind {

@@ -17,21 +17,18 @@ ghost use Rattle.renders.specs.Puts.{Puts, run};
 ghost use Rattle.renders.specs.Lines.{rest, leading, spanText, accelerationWide, valueText, slotWide, scoringIn, scoringWide, headText, headWide, entry, entryText, entryWide, playerWide};
 ghost use Rattle.renders.specs.Ends.{endText, endWide, endedBy};
 ghost use Rattle.renders.specs.Rows.{Long, lent, given, entriesIn, playerIn, playersIn};
-use cells::KEPT_COLUMNS;
 use types::Acceleration;
+use types::CR;
+use types::KEPT_COLUMNS;
+use types::MOST_ACCELERATIONS;
 use types::Place;
 use types::Rank;
 use types::StartNumber;
-
-const CR: u8 = 13;
 
 // What ends a line.
 pub enum Terminator {
     Cr,
 }
-
-// The most acceleration records.
-pub const ACCELERATIONS: usize = 32;
 
 // How many columns the numbers have: rounds of a 250 line, start numbers, ranks.
 const ROUND_COLUMNS: usize = 3;
@@ -219,7 +216,7 @@ pub fn put_acceleration(out: &mut [u8], at: usize, a: Acceleration) -> usize
 pub fn put_accelerations(
     out: &mut [u8],
     at: usize,
-    records: [Acceleration; ACCELERATIONS],
+    records: [Acceleration; MOST_ACCELERATIONS],
     count: usize,
     end: Terminator,
 ) -> usize

@@ -3,15 +3,15 @@
 ghost use Rattle.io.specs.Counts.{Counts};
 use libc::STDERR_FILENO;
 use libc::STDOUT_FILENO;
-use listed::ACCELERATIONS;
-use listed::ENTRIES;
 use listed::Input;
-use listed::KEPT;
-use listed::LINES;
 use listed::MOST_READ;
-use listed::PLAYERS;
-use listed::TEXT;
 use types::Answer;
+use types::ENTRIES;
+use types::KEPT;
+use types::LINES;
+use types::MOST_ACCELERATIONS;
+use types::MOST_PLAYERS;
+use types::MOST_TEXT;
 
 // The longest file that the writer can produce.
 pub const MOST_WRITTEN: usize = 61141;
@@ -26,14 +26,14 @@ pub struct Rewritten {
 pub fn rewrite_file(file: &[u8], out: &mut [u8; MOST_WRITTEN]) -> Rewritten
     ensures { λ r. ⌜ Counts (r .length) (now (out .exit)) ⌝ }
 {
-    let mut starts = [0u32; PLAYERS];
-    let mut points = [0u32; PLAYERS];
-    let mut ranks = [0u32; PLAYERS];
+    let mut starts = [0u32; MOST_PLAYERS];
+    let mut points = [0u32; MOST_PLAYERS];
+    let mut ranks = [0u32; MOST_PLAYERS];
     let mut kept = [0u8; KEPT];
     let mut opponents = [0u32; ENTRIES];
     let mut colours = [0u8; ENTRIES];
     let mut results = [0u8; ENTRIES];
-    let mut text = [0u8; TEXT];
+    let mut text = [0u8; MOST_TEXT];
     let mut lines = [0u32; LINES];
     let core = reader::read_core(
         file,
@@ -46,7 +46,7 @@ pub fn rewrite_file(file: &[u8], out: &mut [u8; MOST_WRITTEN]) -> Rewritten
         &mut results,
         &mut text,
         &mut lines,
-        ACCELERATIONS,
+        MOST_ACCELERATIONS,
     );
     let answer = core.answer;
     let records = core.records;
@@ -61,7 +61,7 @@ pub fn rewrite_file(file: &[u8], out: &mut [u8; MOST_WRITTEN]) -> Rewritten
         &results,
         &text,
         records,
-        ACCELERATIONS,
+        MOST_ACCELERATIONS,
         out,
     );
     Rewritten {

@@ -14,17 +14,17 @@ use lines_read::CoreAnswer;
 // The cells past each listed size.
 const MORE: usize = 3;
 
-const PLAYERS: usize = listed::PLAYERS + MORE;
+const PLAYERS: usize = types::MOST_PLAYERS + MORE;
 
-const KEPT: usize = listed::KEPT + MORE;
+const KEPT: usize = types::KEPT + MORE;
 
-const ENTRIES: usize = listed::ENTRIES + MORE;
+const ENTRIES: usize = types::ENTRIES + MORE;
 
-const TEXT: usize = listed::TEXT + MORE;
+const TEXT: usize = types::MOST_TEXT + MORE;
 
-const LINES: usize = listed::LINES + MORE;
+const LINES: usize = types::LINES + MORE;
 
-const RECORDS: usize = listed::ACCELERATIONS + MORE;
+const RECORDS: usize = types::MOST_ACCELERATIONS + MORE;
 
 const MARK_NUMBER: u32 = MARK as u32;
 

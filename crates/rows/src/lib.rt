@@ -1,10 +1,10 @@
 // A 001 line, by value: its player's numbers, its kept columns and its rounds. A line against its rule is refusal 7, which Bad, and not good, stands for.
-use cells::KEPT_COLUMNS;
 use fields::Number;
 use fields::Points;
-use records::MOST_RANK;
-use records::MOST_ROUNDS;
-use records::MOST_START;
+use types::KEPT_COLUMNS;
+use types::MOST_RANK;
+use types::MOST_ROUNDS;
+use types::MOST_START;
 use types::Rank;
 use types::StartNumber;
 ghost use mathlib.Core.Path.{_≡_};
@@ -19,11 +19,8 @@ ghost use Rattle.law.proofs.RecordsRead.{slotOf, slotsOf, playerOf};
 ghost use Rattle.fields.specs.Said.{orBadField};
 ghost use Rattle.rows.specs.Rows.{playerColumns, slotSays, noSlots, SlotsSay, noRow, RowSays};
 
-// The rounds that a 001 line has columns for.
-const ROUNDS: usize = MOST_ROUNDS as usize;
-
 // The columns up to the last round's result.
-const COLUMNS: usize = 89 + 10 * ROUNDS;
+const COLUMNS: usize = 89 + 10 * MOST_ROUNDS;
 
 // A round's columns on a 001 line: the id, 0 where it is blank, the colour as it stands, the result as a capital, and whether a byte of them is not blank.
 enum Slot {
@@ -34,10 +31,10 @@ enum Slot {
 // The rounds of a 001 line, the r-th in cell r - 1; zeros where they are not good.
 struct Slots {
     good: bool,
-    ids: [u32; ROUNDS],
-    colours: [u8; ROUNDS],
-    results: [u8; ROUNDS],
-    used: [bool; ROUNDS],
+    ids: [u32; MOST_ROUNDS],
+    colours: [u8; MOST_ROUNDS],
+    results: [u8; MOST_ROUNDS],
+    used: [bool; MOST_ROUNDS],
 }
 
 // A 001 line; zeros where it is not good.
@@ -47,10 +44,10 @@ pub struct Row {
     pub rank: Rank,
     pub points: u32,
     pub kept: [u8; KEPT_COLUMNS],
-    pub ids: [u32; ROUNDS],
-    pub colours: [u8; ROUNDS],
-    pub results: [u8; ROUNDS],
-    pub used: [bool; ROUNDS],
+    pub ids: [u32; MOST_ROUNDS],
+    pub colours: [u8; MOST_ROUNDS],
+    pub results: [u8; MOST_ROUNDS],
+    pub used: [bool; MOST_ROUNDS],
 }
 
 fn capital(c: u8) -> u8
@@ -121,10 +118,10 @@ fn no_slots() -> Slots
 {
     Slots {
         good: false,
-        ids: [0; ROUNDS],
-        colours: [0; ROUNDS],
-        results: [0; ROUNDS],
-        used: [false; ROUNDS],
+        ids: [0; MOST_ROUNDS],
+        colours: [0; MOST_ROUNDS],
+        results: [0; MOST_ROUNDS],
+        used: [false; MOST_ROUNDS],
     }
 }
 
@@ -132,12 +129,12 @@ fn slots_of(line: &[u8]) -> Slots
     requires { ⌜ playerColumns ≤ length (now line) ⌝ }
     ensures { λ r. ⌜ SlotsSay (slotsOf (now (line .entry))) r ⌝ }
 {
-    let mut ids = [0u32; ROUNDS];
-    let mut colours = [0u8; ROUNDS];
-    let mut results = [0u8; ROUNDS];
-    let mut used = [false; ROUNDS];
+    let mut ids = [0u32; MOST_ROUNDS];
+    let mut colours = [0u8; MOST_ROUNDS];
+    let mut results = [0u8; MOST_ROUNDS];
+    let mut used = [false; MOST_ROUNDS];
     let mut i = 0;
-    while i < ROUNDS {
+    while i < MOST_ROUNDS {
         let Slot::Read(id, colour, result, is) = slot_of(line, i + 1) else {
             return no_slots();
         };
@@ -185,7 +182,7 @@ fn rounds_else_blank(line: &[u8]) -> bool
     ensures { λ r. ⌜ r ≡ elseBlank 90 (flat roundFields everyRound) (now (line .entry)) ⌝ }
 {
     let mut i = 0;
-    while i < ROUNDS {
+    while i < MOST_ROUNDS {
         if !round_else_blank(line, 89 + 10 * i) {
             return false;
         }
@@ -222,10 +219,10 @@ fn no_row() -> Row
         rank: Rank(0),
         points: 0,
         kept: [0; KEPT_COLUMNS],
-        ids: [0; ROUNDS],
-        colours: [0; ROUNDS],
-        results: [0; ROUNDS],
-        used: [false; ROUNDS],
+        ids: [0; MOST_ROUNDS],
+        colours: [0; MOST_ROUNDS],
+        results: [0; MOST_ROUNDS],
+        used: [false; MOST_ROUNDS],
     }
 }
 

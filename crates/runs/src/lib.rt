@@ -21,9 +21,7 @@ use records::Kind;
 use steps::Counts;
 use steps::Stepped;
 use types::LineNumber;
-
-// The longest line.
-const MOST_LINE: usize = 512;
+use types::MOST_LINE;
 
 // One line of allowed bytes that has its terminator.
 fn step(

@@ -19,11 +19,8 @@ use scorings::Scored;
 use scorings::Scoring;
 use types::Acceleration;
 use types::LineNumber;
-
-// The most acceleration records, and bytes of kept text.
-pub const ACCELERATIONS: usize = 32;
-
-const TEXT: usize = 2048;
+use types::MOST_ACCELERATIONS;
+use types::MOST_TEXT;
 
 // How many codes there are of kept text, and the place of the one that may stand more than once.
 pub const TEXT_CODES: usize = 16;
@@ -36,7 +33,7 @@ pub struct Counts {
     pub players: usize,
     pub accelerations: usize,
     pub text: usize,
-    pub records: [Acceleration; ACCELERATIONS],
+    pub records: [Acceleration; MOST_ACCELERATIONS],
     pub seen: [bool; TEXT_CODES],
     pub stated: bool,
     pub rounds: u32,
@@ -187,7 +184,7 @@ pub fn step_text(line: &[u8], c: Counts, text: &mut [u8]) -> Stepped
             counts: c,
         };
     }
-    if TEXT < c.text + (n + 1) {
+    if MOST_TEXT < c.text + (n + 1) {
         return Stepped {
             fault: 9,
             counts: c,
@@ -280,7 +277,7 @@ pub fn step_acceleration(line: &[u8], number: LineNumber, c: Counts, lines: &mut
         };
     };
     let n = c.accelerations;
-    if ACCELERATIONS < n + 1 {
+    if MOST_ACCELERATIONS < n + 1 {
         return Stepped {
             fault: 9,
             counts: c,

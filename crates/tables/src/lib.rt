@@ -14,27 +14,17 @@ ghost use Rattle.law.specs.Tables.{keptCells, entryCells, lineCells, cellOf, ar
 ghost use Rattle.join.specs.Grid.{putRow};
 ghost use Rattle.join.specs.Kept.{Long, Zeroed};
 ghost use Rattle.tables.specs.Lent.{lent, before, after};
-use cells::KEPT_COLUMNS;
+use types::CR;
+use types::ENTRIES;
+use types::KEPT;
+use types::KEPT_COLUMNS;
+use types::LINES;
 use types::LineNumber;
+use types::MOST_ACCELERATIONS;
+use types::MOST_PLAYERS;
+use types::MOST_ROUNDS;
+use types::MOST_TEXT;
 use types::Place;
-
-// A player has a cell for each round that there can be.
-pub const MOST_ROUNDS: usize = 20;
-
-// The listed sizes.
-pub const PLAYERS: usize = 200;
-
-pub const ENTRIES: usize = PLAYERS * MOST_ROUNDS;
-
-pub const KEPT: usize = PLAYERS * KEPT_COLUMNS;
-
-pub const TEXT: usize = 2048;
-
-const ACCELERATIONS: usize = 32;
-
-const LINES: usize = PLAYERS + ACCELERATIONS;
-
-const CR: u8 = 13;
 
 // Whether tables of these lengths are long enough: those that every call is lent.
 pub fn enough(
@@ -50,15 +40,15 @@ pub fn enough(
 ) -> bool
     ensures { λ r. ⌜ r ≡ areLong ((mostPlayers, starts) ∷ (mostPlayers, points) ∷ (mostPlayers, ranks) ∷ (keptCells, kept) ∷ (entryCells, opponents) ∷ (entryCells, colours) ∷ (entryCells, results) ∷ (mostText, text) ∷ (mostAccelerations, accelerations) ∷ []) ⌝ }
 {
-    (PLAYERS <= starts)
-        & (PLAYERS <= points)
-        & (PLAYERS <= ranks)
+    (MOST_PLAYERS <= starts)
+        & (MOST_PLAYERS <= points)
+        & (MOST_PLAYERS <= ranks)
         & (KEPT <= kept)
         & (ENTRIES <= opponents)
         & (ENTRIES <= colours)
         & (ENTRIES <= results)
-        & (TEXT <= text)
-        & (ACCELERATIONS <= accelerations)
+        & (MOST_TEXT <= text)
+        & (MOST_ACCELERATIONS <= accelerations)
 }
 
 // The same of the line numbers, which the reader alone is lent.
@@ -83,14 +73,14 @@ pub fn clear(
     requires { ⌜ Long (lent starts points ranks kept opponents colours results text lines) ⌝ }
     ensures { λ _. ⌜ Zeroed (before starts points ranks kept opponents colours results text lines) (after starts points ranks kept opponents colours results text lines) ⌝ }
 {
-    cells::zero_numbers(starts, PLAYERS);
-    cells::zero_numbers(points, PLAYERS);
-    cells::zero_numbers(ranks, PLAYERS);
+    cells::zero_numbers(starts, MOST_PLAYERS);
+    cells::zero_numbers(points, MOST_PLAYERS);
+    cells::zero_numbers(ranks, MOST_PLAYERS);
     cells::zero_bytes(kept, KEPT);
     cells::zero_numbers(opponents, ENTRIES);
     cells::zero_bytes(colours, ENTRIES);
     cells::zero_bytes(results, ENTRIES);
-    cells::zero_bytes(text, TEXT);
+    cells::zero_bytes(text, MOST_TEXT);
     cells::zero_numbers(lines, LINES);
 }
 
@@ -179,7 +169,7 @@ pub fn store_record_line(t: &mut [u32], number: usize, line: LineNumber)
     requires { ⌜ (number < mostAccelerations) × (lineCells ≤ length (now t)) ⌝ }
     ensures { λ _. ⌜ now (t .exit) ≡ set (now (t .entry)) (mostPlayers + number) (line .0) ⌝ }
 {
-    t[PLAYERS + number] = line.0;
+    t[MOST_PLAYERS + number] = line.0;
 }
 
 // A kept text line, the first n bytes of a line of the file, ended by one CR.

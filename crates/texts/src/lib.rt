@@ -13,9 +13,7 @@ use records::Kind;
 use records::Text;
 use steps::REPEATED;
 use steps::TEXT_CODES;
-
-// The longest line.
-const MOST_LINE: usize = 512;
+use types::MOST_LINE;
 
 // Whether a line may stand after others, and the codes that have stood then.
 struct Stood {

@@ -59,3 +59,47 @@ pub struct Score {
     pub points: u32,
     pub acceleration: u32,
 }
+
+// What the box carries at most: bytes of a file, bytes of a line without its terminator, players, rounds, acceleration records, bytes of kept text.
+pub const MOST_FILE: usize = 65535;
+
+pub const MOST_LINE: usize = 512;
+
+pub const MOST_PLAYERS: usize = 200;
+
+pub const MOST_ROUNDS: usize = 20;
+
+pub const MOST_ACCELERATIONS: usize = 32;
+
+pub const MOST_TEXT: usize = 2048;
+
+// The highest numbers of a player: points in tenths, start number, rank.
+pub const MOST_POINTS: u32 = 999;
+
+pub const MOST_START: u32 = 9999;
+
+pub const MOST_RANK: u32 = 9999;
+
+// The columns of a player's line that are kept.
+pub const KEPT_COLUMNS: usize = 70;
+
+// The cells of the lent tables that have more than one a player: entries, kept columns, line numbers.
+pub const ENTRIES: usize = MOST_PLAYERS * MOST_ROUNDS;
+
+pub const KEPT: usize = MOST_PLAYERS * KEPT_COLUMNS;
+
+pub const LINES: usize = MOST_PLAYERS + MOST_ACCELERATIONS;
+
+// The bytes that end a line.
+pub const CR: u8 = 13;
+
+pub const LF: u8 = 10;
+
+// No acceleration record.
+pub const NO_ACCELERATION: Acceleration = Acceleration {
+    points: 0,
+    first_round: 0,
+    last_round: 0,
+    first_start: 0,
+    last_start: 0,
+};

@@ -17,14 +17,12 @@ ghost use Rattle.checks.specs.Laws.{Long, Indexed, asLaw, four};
 ghost use Rattle.verdicts.specs.Verdict.{asVerdict, lawNumber, unlawfulIn, FoundUnder};
 use checks::Found;
 use checks::LawKind;
-use checks::MOST_ACCELERATIONS;
 use checks::START_CELLS;
 use types::Acceleration;
 use types::LineNumber;
+use types::MOST_ACCELERATIONS;
+use types::MOST_PLAYERS;
 use types::Place;
-
-// The line numbers of the acceleration records stand after those of the players.
-const PLAYERS: usize = 200;
 
 // A refusal by its number, line and round; zeros where there is none.
 pub struct Verdict {
@@ -79,7 +77,7 @@ pub fn sharing(records: [Acceleration; MOST_ACCELERATIONS], n: usize, lines: &[u
     };
     Verdict {
         number: 17,
-        line: LineNumber(lines[PLAYERS + j]),
+        line: LineNumber(lines[MOST_PLAYERS + j]),
         round: 0,
     }
 }

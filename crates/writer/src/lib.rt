@@ -14,11 +14,11 @@ ghost use Rattle.renders.specs.Puts.{Puts};
 ghost use Rattle.renders.specs.Ends.{endWide};
 ghost use Rattle.renders.specs.Rows.{Long, lent};
 ghost use Rattle.writer.specs.Report.{Fit, colourText, headsText, headsWide, reportText, reportWide};
-use renders::ACCELERATIONS;
 use renders::Terminator;
 use types::Acceleration;
 use types::Answer;
 use types::LineNumber;
+use types::MOST_ACCELERATIONS;
 use types::Written;
 
 // How the lines end.
@@ -131,7 +131,7 @@ fn put_report(
     colours: &[u8],
     results: &[u8],
     text: &[u8],
-    all: [Acceleration; ACCELERATIONS],
+    all: [Acceleration; MOST_ACCELERATIONS],
     end: Terminator,
     out: &mut [u8],
 ) -> usize
@@ -195,7 +195,7 @@ pub fn write_core(
     colours: &[u8],
     results: &[u8],
     text: &[u8],
-    all: [Acceleration; ACCELERATIONS],
+    all: [Acceleration; MOST_ACCELERATIONS],
     accelerations: usize,
     out: &mut [u8],
 ) -> Written

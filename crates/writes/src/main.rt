@@ -14,11 +14,11 @@ use drafts::MARK;
 use drafts::ROOM;
 use libc::STDIN_FILENO;
 use libc::STDOUT_FILENO;
-use listed::ACCELERATIONS;
-use listed::LINES;
 use rewritten::MOST_WRITTEN;
 use types::Acceleration;
 use types::Answer;
+use types::LINES;
+use types::MOST_ACCELERATIONS;
 use types::Place;
 
 // The output's bytes.
@@ -40,9 +40,9 @@ fn part(cells: usize, table: u32, c: Case) -> usize
 // How many acceleration records are lent.
 fn records_lent(c: Case) -> usize {
     if c.short == changes::RECORDS {
-        ACCELERATIONS - 1
+        MOST_ACCELERATIONS - 1
     } else {
-        ACCELERATIONS
+        MOST_ACCELERATIONS
     }
 }
 
@@ -153,7 +153,7 @@ fn run(c: Case, file: &[u8], other: &[u8]) {
         &mut results,
         &mut text,
         &mut lines,
-        ACCELERATIONS,
+        MOST_ACCELERATIONS,
     );
     let read = core.answer;
     let all = core.records;
