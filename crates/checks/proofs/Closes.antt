@@ -3,35 +3,22 @@
 use mathlib.Core.Path.{_≡_, refl, sym, ap, _∙_, subst}
 use mathlib.Core.Bool.{Bool, cond, _&&_}
 use mathlib.Core.List.{List}
-use Prim.Native.Nat.{ℕ, _+_, _*_, _-_, _≤_, _<_}
+use Prim.Native.Nat.{ℕ, _+_, _*_, _≤_, _<_}
 use native.Mathlib.Decide.{decLt}
 use native.Mathlib.Omega.{arith}
 use borrow.Author.Tests.{lt-ltb, le-ltb}
 use lib.Dec.{eqb, leb, ltb}
-use lib.ListN.{length, getD, set}
+use lib.ListN.{length, getD, set, length-set}
 use Rattle.kit.specs.Table.{Holds}
 use Rattle.law.specs.Sizes.{mostPlayers, mostRounds}
 use Rattle.law.specs.Tables.{entryCells, cellOf, placeIn, roundIn}
 use Rattle.join.specs.Check.{placeAt, roundAt, closing}
 use Rattle.join.proofs.Cells.{holds-as, holds-set}
 use Rattle.join.proofs.Keeps.{by-player}
-
--- the turn at which a cell is looked at, and the cell of a turn
-abbrev turnOf : ℕ → ℕ
-turnOf i = placeIn i * mostRounds + (roundIn i - 1)
+use Rattle.checks.specs.Closing.{turnOf, after, Closing, ClosesRow}
 
 abbrev at : ℕ → ℕ
 at k = cellOf (placeAt k) (roundAt k)
-
--- what cell i holds after k turns, where c stood before
-abbrev after : ℕ → ℕ → ℕ → ℕ → ℕ → ℕ
-after R letter k i c = cond (ltb (turnOf i) k && leb (roundIn i) R && eqb c 0) letter c
-
-pub record Closing (n R letter : ℕ) (b t : List ℕ) (k : ℕ) : Type 0 where
-  pub upto : k ≤ n * mostRounds
-  pub few : n ≤ mostPlayers
-  pub room : entryCells ≤ length b
-  pub holds : Holds 0 entryCells (λ i. after R letter k i (getD b i 0)) b t
 
 pub close-none : (n R letter : ℕ) (b : List ℕ) → n ≤ mostPlayers → entryCells ≤ length b → Closing n R letter b b 0
 close-none n R letter b few room =
@@ -107,3 +94,35 @@ close-end {n} {R} {letter} {b} {t} {k} s l =
         let z : placeIn i < n → ⊥ = a in
         let w = s .upto in
         le-ltb (turnOf i) k (omega arith) ∙ sym (le-ltb (placeIn i) n (omega arith))
+
+-- ---- the rounds of one player, after j of them
+pub record Row (R letter place : ℕ) (b t : List ℕ) (j : ℕ) : Type 0 where
+  pub upto : j ≤ mostRounds
+  pub long : length t ≡ length b
+  pub closes : (n : ℕ) (a : List ℕ) → place < n → Closing n R letter a b (place * mostRounds) → Closing n R letter a t (place * mostRounds + j)
+
+pub row-none : (R letter place : ℕ) (b : List ℕ) → Row R letter place b b 0
+row-none R letter place b = record { upto = omega arith; long = refl; closes = λ n a l s. subst (λ (k : ℕ). Closing n R letter a b k) (omega arith) s }
+
+pub row-more : {R letter place : ℕ} {b t : List ℕ} {j : ℕ} → Row R letter place b t j → j < mostRounds → (i v : ℕ) → i ≡ cellOf place (j + 1)
+    → v ≡ cond (leb (j + 1) R && eqb (getD t i 0) 0) letter (getD t i 0) → Row R letter place b (set t i v) (j + 1)
+row-more {R} {letter} {place} {b} {t} {j} x l i v e h =
+    record {
+      upto = omega arith;
+      long = length-set t i v ∙ x .long;
+      closes = λ n a m s.
+          let k : ℕ = place * mostRounds + j in
+          let p : placeAt k ≡ place = omega arith in
+          let r : roundAt k ≡ j + 1 = omega arith in
+          let q : k + 1 ≡ place * mostRounds + (j + 1) = omega arith in
+          subst (λ (y : ℕ). Closing n R letter a (set t i v) y) q
+          (close-more (x .closes n a m s) (omega arith) i v (rw (p, r) e) (rw r h));
+    }
+
+pub row-end : {R letter place : ℕ} {b t : List ℕ} {j : ℕ} → Row R letter place b t j → mostRounds ≤ j → ClosesRow R letter place b t
+row-end {R} {letter} {place} {b} {t} {j} x m n a l s =
+    subst (λ (y : ℕ). Closing n R letter a t (place * mostRounds + y)) (let u = x .upto in omega arith) (x .closes n a l s)
+
+-- ---- player by player
+pub player-more : {n R letter : ℕ} {a b t : List ℕ} {p : ℕ} → Closing n R letter a b (p * mostRounds) → p < n → ClosesRow R letter p b t → Closing n R letter a t ((p + 1) * mostRounds)
+player-more {n} {R} {letter} {a} {b} {t} {p} s l x = subst (λ (y : ℕ). Closing n R letter a t y) (omega arith) (x n a l s)

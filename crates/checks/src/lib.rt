@@ -22,6 +22,7 @@ ghost use Rattle.join.specs.Check.{placeAt, roundAt, isSeen, roundSeen, roundsS
 ghost use Rattle.checks.specs.Results.{entry, isPair, areSmall};
 ghost use Rattle.checks.specs.Found.{asFound};
 ghost use Rattle.checks.specs.Index.{IndexOf, LowStarts, asPlaced};
+ghost use Rattle.checks.specs.Closing.{ClosesRow};
 ghost use Rattle.checks.specs.Laws.{asLaw, four, Long, Indexed, IsIndex};
 use types::Acceleration;
 use types::MOST_ACCELERATIONS;
@@ -268,19 +269,29 @@ fn closed(cell: u8, round: u32, rounds: u32, letter: u8) -> u8
     cell
 }
 
+// The closing pass on the cells of one player.
+fn close_row(t: &mut [u8], place: Place, rounds: u32, letter: u8)
+    requires { ⌜ (place .0 < mostPlayers) × (entryCells ≤ length (now t)) ⌝ }
+    ensures { λ _. ⌜ ClosesRow rounds letter (place .0) (now (t .entry)) (now (t .exit)) ⌝ }
+{
+    let mut j = 0;
+    while j < MOST_ROUNDS {
+        let round = j as u32 + 1;
+        let i = tables::cell_of(place, round);
+        t[i] = closed(t[i], round, rounds, letter);
+        j += 1;
+    }
+}
+
 // The closing pass on colours or results: a zero cell of one of n players, up to the last round, becomes the letter.
 pub fn close(t: &mut [u8], n: usize, rounds: u32, letter: u8)
     requires { ⌜ (n ≤ mostPlayers) × (entryCells ≤ length (now t)) ⌝ }
     ensures { λ _. ⌜ Holds 0 entryCells (λ i. closing n rounds letter i (getD (now (t .entry)) i 0)) (now (t .entry)) (now (t .exit)) ⌝ }
 {
-    let turns = n * MOST_ROUNDS;
-    let mut k = 0;
-    while k < turns {
-        let place = place_at(k);
-        let round = round_at(k);
-        let i = tables::cell_of(place, round);
-        t[i] = closed(t[i], round, rounds, letter);
-        k += 1;
+    let mut p = 0;
+    while p < n {
+        close_row(t, Place(p as u32), rounds, letter);
+        p += 1;
     }
 }
 

@@ -1,6 +1,6 @@
 -- What the tests of one entry say of 12, 13 and 14: over plain values, as the code has them. Assumes nothing.
 use mathlib.Core.Path.{_≡_, refl, sym, ap, _∙_}
-use mathlib.Core.Bool.{Bool, true, false, _&&_, _||_, not, or-true}
+use mathlib.Core.Bool.{Bool, true, _&&_, or-true}
 use mathlib.Core.List.{List}
 use Prim.Native.Nat.{ℕ}
 use Prim.Native.Char.{code}
@@ -8,7 +8,7 @@ use borrow.Author.Tests.{eq-eqb, ne-eqb, eqb-true}
 use lib.Dec.{eqb}
 use lib.ListN.{getD}
 use Rattle.kit.specs.Lists.{among}
-use Rattle.kit.proofs.Bools.{and, both}
+use Rattle.kit.proofs.Bools.{and}
 use Rattle.types.specs.declared.Place.{Place}
 use Rattle.law.specs.Players.{gameResults}
 use Rattle.law.specs.Entries.{isBye, fits, bye-or-game}
@@ -40,11 +40,11 @@ opposite a b h colour theirs e f = rw (e, eqb-true theirs b f) h
 -- ---- the entry in cell i, that of place p and a round
 module _ (n : ℕ) (starts opponents colours results : List ℕ) (p round : ℕ) {i : ℕ} (cell : i ≡ cellOf p round) where
   -- a game is kept whether or not it were a bye
-  game-side : {own : ℕ} → own ≡ p → isGameBy (entry (getD opponents i 0) (getD colours i 0) (getD results i 0)) (getD starts own 0) (placeOf starts n (getD opponents i 0)) ≡ true
+  game-side : {start : ℕ} → getD starts p 0 ≡ start → isGameBy (entry (getD opponents i 0) (getD colours i 0) (getD results i 0)) start (placeOf starts n (getD opponents i 0)) ≡ true
       → keepsCell bye-or-game n (four starts opponents colours results) p round ≡ true
   unfolding keepsCell entryCell
   game-side o g =
-      rw (rw (cell, o) at g) (or-true (isBye (entry (getD opponents (cellOf p round) 0) (getD colours (cellOf p round) 0) (getD results (cellOf p round) 0))))
+      rw (o, rw cell at g) (or-true (isBye (entry (getD opponents (cellOf p round) 0) (getD colours (cellOf p round) 0) (getD results (cellOf p round) 0))))
 
   module _ {placed : Placed} (told : placed ≡ asPlaced (placeOf starts n (getD opponents i 0))) where
     pub bye-keeps : placed ≡ Nobody → {v : Bool} → v ≡ isBye (entry (getD opponents i 0) (getD colours i 0) (getD results i 0)) → v ≡ true
@@ -56,17 +56,17 @@ module _ (n : ℕ) (starts opponents colours results : List ℕ) (p round : ℕ)
           fitted = sym (fitting-alone n starts opponents colours results p round cell told nobody);
         }
 
-    pub game-keeps : {other : Place} → placed ≡ At other → {j own : ℕ} → j ≡ cellOf (other .0) round → own ≡ p
-        → (getD opponents i 0 ≡ getD starts own 0 → ⊥) → getD opponents j 0 ≡ getD starts own 0 → Opposite (getD colours i 0) (getD colours j 0) → Fits (getD results i 0) (getD results j 0)
+    pub game-keeps : {other : Place} → placed ≡ At other → {j start : ℕ} → j ≡ cellOf (other .0) round → getD starts p 0 ≡ start
+        → (getD opponents i 0 ≡ start → ⊥) → getD opponents j 0 ≡ start → Opposite (getD colours i 0) (getD colours j 0) → Fits (getD results i 0) (getD results j 0)
         → KeepsEntry n (four starts opponents colours results) p round
-    game-keeps {other} at {j} {own} theirs o another back other-colour fit =
+    game-keeps {other} at {j} {start} theirs o another back other-colour fit =
         record {
           game =
               game-side o
-              (sym (game-somebody (getD opponents i 0) (getD colours i 0) (getD results i 0) (getD starts own 0) (placeOf starts n (getD opponents i 0)) told at (sym (other-colour .0)) (sym (fit .0)))
-              ∙ rw (ne-eqb (getD opponents i 0) (getD starts own 0) another) refl);
+              (sym (game-somebody (getD opponents i 0) (getD colours i 0) (getD results i 0) start (placeOf starts n (getD opponents i 0)) told at (sym (other-colour .0)) (sym (fit .0)))
+              ∙ rw (ne-eqb (getD opponents i 0) start another) refl);
           answers =
-              sym (mutual-kept n starts opponents colours results p round cell told at theirs o)
-              ∙ rw (eq-eqb (getD opponents j 0) (getD starts own 0) back, other-colour .1) refl;
+              sym (mutual-kept n starts opponents colours results p round cell told at theirs refl)
+              ∙ rw (eq-eqb (getD opponents j 0) (getD starts p 0) (back ∙ sym o), other-colour .1) refl;
           fitted = sym (fitting-kept n starts opponents colours results p round cell told at theirs (sym (fit .1)));
         }

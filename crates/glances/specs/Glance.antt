@@ -9,6 +9,7 @@ use Rattle.kit.specs.Lists.{among}
 use Rattle.law.specs.Sizes.{mostRounds}
 use Rattle.law.specs.Players.{gameColours, gameResults}
 use Rattle.law.specs.Entries.{fits, bye-or-game, mutual-pairing, fitting-results}
+use Rattle.law.specs.Tables.{cellOf}
 use Rattle.join.specs.Grid.{someBelow}
 use Rattle.join.specs.Store.{Nine}
 use Rattle.join.specs.Check.{hasUAt, keepsCell}
@@ -45,3 +46,7 @@ pub record Noted (results : List ℕ) (place : ℕ) (before after : List Bool) (
 -- no player of the first has U where one before has
 abbrev pub OnceU : List ℕ → ℕ → Type 0
 OnceU results players = (place : ℕ) → place < players → (j : ℕ) → j < mostRounds → hasUAt results place (j + 1) && someBelow (λ q. hasUAt results q (j + 1)) place ≡ false
+
+-- 11: the cells of a place are zero from a round on, counted from 0
+abbrev pub BlankRow : List ℕ → ℕ → ℕ → Type 0
+BlankRow cells place from = (j : ℕ) → from ≤ j → j < mostRounds → getD cells (cellOf place (j + 1)) 0 ≡ 0

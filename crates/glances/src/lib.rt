@@ -1,18 +1,18 @@
-// One look at each entry: whether all of them keep the four laws. Most files do, and then no search for the first that does not is needed. Promised: a yes
-// is right; after a no the searches of checks tell what is wrong, and where.
+// One look at each entry: whether all of them keep the four laws, and whether none is past the rounds that there are. Most files are so, and then no search
+// for the first that is not is needed. Promised: a yes is right; after a no the searches of checks tell what is wrong, and where.
 ghost use mathlib.Core.Path.{_≡_};
-ghost use mathlib.Core.Bool.{true, false};
+ghost use mathlib.Core.Bool.{true};
 ghost use mathlib.Core.Option.{none};
 ghost use mathlib.Core.List.{List};
-ghost use Prim.Native.Nat.{ℕ, _+_, _*_, _≤_, _<_};
-ghost use lib.ListN.{length};
+ghost use Prim.Native.Nat.{ℕ, _*_, _≤_, _<_};
+ghost use lib.ListN.{length, getD};
 ghost use Rattle.law.specs.Sizes.{mostPlayers, mostRounds};
 ghost use Rattle.law.specs.Entries.{Law};
 ghost use Rattle.law.specs.Tables.{entryCells};
 ghost use Rattle.join.specs.Grid.{firstFrom};
-ghost use Rattle.join.specs.Check.{brokenCell};
+ghost use Rattle.join.specs.Check.{pastCell, brokenCell};
 ghost use Rattle.checks.specs.Laws.{four, Long, Indexed, IsIndex};
-ghost use Rattle.glances.specs.Glance.{Answered, Fits, Opposite, KeepsEntry, KeepsRow, KeepsRows, Noted, OnceU};
+ghost use Rattle.glances.specs.Glance.{Answered, Fits, Opposite, KeepsEntry, KeepsRow, KeepsRows, Noted, OnceU, BlankRow};
 use checks::Placed;
 use checks::START_CELLS;
 use types::MOST_ROUNDS;
@@ -61,19 +61,19 @@ fn are_opposite(colour: u8, theirs: u8) -> bool
     }
 }
 
-// Whether an entry is a bye or a game, and a game mutual with results that fit.
+// Whether an entry is a bye or a game, and a game mutual with results that fit. start: the player's own, read once for all rounds.
 fn keeps_entry(
     place: Place,
     round: u32,
-    starts: &[u32],
+    start: StartNumber,
     opponents: &[u32],
     colours: &[u8],
     results: &[u8],
     index: &[u8; START_CELLS],
 ) -> bool
     requires { ⌜ (place .0 < mostPlayers) × (1 ≤ round) × (round ≤ mostRounds) ⌝ }
-    requires { ⌜ Long (now starts) (now opponents) (now colours) (now results) × IsIndex (now index) ⌝ }
-    ensures { λ r. ⌜ (r ≡ true → (n : ℕ) → Indexed (now (starts .entry)) n (now (index .entry)) → KeepsEntry n (four (now (starts .entry)) (now (opponents .entry)) (now (colours .entry)) (now (results .entry))) (place .0) round) ⌝ }
+    requires { ⌜ (entryCells ≤ length (now opponents)) × (entryCells ≤ length (now colours)) × (entryCells ≤ length (now results)) × IsIndex (now index) ⌝ }
+    ensures { λ r. ⌜ (r ≡ true → (starts : List ℕ) (n : ℕ) → getD starts (place .0) 0 ≡ start .0 → Indexed starts n (now (index .entry)) → KeepsEntry n (four starts (now (opponents .entry)) (now (colours .entry)) (now (results .entry))) (place .0) round) ⌝ }
 {
     let i = tables::cell_of(place, round);
     let id = opponents[i];
@@ -83,13 +83,11 @@ fn keeps_entry(
     let Placed::At(other) = opponent else {
         return checks::is_bye(id, colour, result);
     };
-    let own = tables::own_cell(place);
-    let start = starts[own];
-    if id == start {
+    if id == start.0 {
         return false;
     }
     let j = tables::cell_of(other, round);
-    if opponents[j] != start {
+    if opponents[j] != start.0 {
         return false;
     }
     if !are_opposite(colour, colours[j]) {
@@ -112,9 +110,11 @@ fn keeps_row(
     requires { ⌜ Long (now starts) (now opponents) (now colours) (now results) × IsIndex (now index) ⌝ }
     ensures { λ r. ⌜ (r ≡ true → (n : ℕ) → Indexed (now (starts .entry)) n (now (index .entry)) → KeepsRow n (four (now (starts .entry)) (now (opponents .entry)) (now (colours .entry)) (now (results .entry))) (place .0) rounds) ⌝ }
 {
+    let own = tables::own_cell(place);
+    let start = StartNumber(starts[own]);
     let mut j = 0;
     while j < rounds {
-        if !keeps_entry(place, j + 1, starts, opponents, colours, results, index) {
+        if !keeps_entry(place, j + 1, start, opponents, colours, results, index) {
             return false;
         }
         j += 1;
@@ -174,6 +174,36 @@ fn keeps_one_u(results: &[u8], n: usize) -> bool
     let mut p = 0;
     while p < n {
         if note_u(results, Place(p as u32), &mut seen) {
+            return false;
+        }
+        p += 1;
+    }
+    true
+}
+
+// Whether the cells of a place hold zero from a round on, counted from 0.
+fn is_row_blank(t: &[u8], place: Place, from: u32) -> bool
+    requires { ⌜ (place .0 < mostPlayers) × (entryCells ≤ length (now t)) ⌝ }
+    ensures { λ r. ⌜ (r ≡ true → BlankRow (now (t .entry)) (place .0) from) ⌝ }
+{
+    let mut good = true;
+    let mut j = from as usize;
+    while j < MOST_ROUNDS {
+        let i = tables::cell_of(place, j as u32 + 1);
+        good = good & (t[i] == 0);
+        j += 1;
+    }
+    good
+}
+
+// Whether no cell of n players past the rounds that there are holds anything.
+pub fn none_past(colours: &[u8], n: usize, rounds: u32) -> bool
+    requires { ⌜ (n ≤ mostPlayers) × (entryCells ≤ length (now colours)) ⌝ }
+    ensures { λ r. ⌜ (r ≡ true → firstFrom (pastCell rounds (now (colours .entry))) 0 (n * mostRounds) ≡ none) ⌝ }
+{
+    let mut p = 0;
+    while p < n {
+        if !is_row_blank(colours, Place(p as u32), rounds) {
             return false;
         }
         p += 1;

@@ -1,64 +1,66 @@
--- The unused cells of an entry table, turn by turn: each turn has its cell, and each cell its turn. Assumes nothing.
-use mathlib.Core.Path.{_≡_, sym, ap, ap₂, _∙_, subst}
-use mathlib.Core.Bool.{Bool, _||_}
+-- The unused cells of an entry table, place by place: each place and round has its cell, and each cell its place and round. Assumes nothing.
+use mathlib.Core.Path.{_≡_, refl, sym, ap, _∙_, subst}
+use mathlib.Core.Bool.{Bool}
 use mathlib.Core.List.{List}
-use Prim.Native.Nat.{ℕ, _+_, _*_, _-_, _≤_, _<_}
+use Prim.Native.Nat.{ℕ, _+_, _-_, _≤_, _<_}
+use native.Mathlib.Decide.{decLt}
 use native.Mathlib.Omega.{arith}
-use lib.Dec.{eqb}
+use borrow.Author.Tests.{lt-ltb, le-ltb}
 use lib.ListN.{getD}
+use lib.Dec.{eqb}
 use Rattle.law.specs.Sizes.{mostPlayers, mostRounds}
-use Rattle.law.specs.Tables.{entryCells, cellOf, placeIn, roundIn}
-use Rattle.join.specs.Check.{placeAt, roundAt}
+use Rattle.law.specs.Tables.{cellOf, placeIn, roundIn}
 use Rattle.join.proofs.Keeps.{by-player}
 use Rattle.texts.specs.Kept.{Told}
 use Rattle.readings.specs.Good.{UnusedEntries}
-use Rattle.held.proofs.Passed.{told-as, told-eq, told-unless}
+use Rattle.held.specs.Rows.{unusedFrom, UnusedRow}
+use Rattle.held.proofs.Passed.{told-as, told-eq}
 
--- the cell of a turn
-abbrev pub turnCell : ℕ → ℕ
-turnCell k = cellOf (placeAt k) (roundAt k)
+-- i is the cell of a place and a round
+pub cell-told : (cells : List ℕ) (i place round : ℕ) → i ≡ cellOf place round → Told (getD cells (cellOf place round) 0 ≡ 0) (eqb (getD cells i 0) 0)
+cell-told cells i place round e = subst (λ (j : ℕ). Told (getD cells j 0 ≡ 0) (eqb (getD cells i 0) 0)) e (told-eq (getD cells i 0) 0)
 
--- the turn of a place and a round
-abbrev turnOf : ℕ → ℕ → ℕ
-turnOf p r = p * mostRounds + (r - 1)
+-- as far as a round is used
+pub used-from : (n R place : ℕ) → place < n → R ≡ unusedFrom n R place
+used-from n R place l = rw (lt-ltb place n l) refl
 
-module _ (p r : ℕ) (in-table : p < mostPlayers) (low : 1 ≤ r) (high : r ≤ mostRounds) where
-  turn-in : turnOf p r < entryCells
-  turn-in = omega arith
-
-  turn-place : placeAt (turnOf p r) ≡ p
-  turn-place = omega arith
-
-  turn-round : roundAt (turnOf p r) ≡ r
-  turn-round = omega arith
+pub unused-all : (n R place : ℕ) → n ≤ place → 0 ≡ unusedFrom n R place
+unused-all n R place l = rw (le-ltb place n l) refl
 
 module _ (n R : ℕ) (cells : List ℕ) where
-  -- a turn that no player has up to round R
-  abbrev pub UnusedTurn : ℕ → Type 0
-  UnusedTurn k = ((placeAt k < n) × (roundAt k ≤ R) → ⊥) → getD cells (turnCell k) 0 ≡ 0
+  abbrev pub Row : ℕ → Type 0
+  Row place = UnusedRow cells place (unusedFrom n R place)
 
-  by-cell : ((k : ℕ) → k < entryCells → UnusedTurn k) → UnusedEntries n R cells
+  by-cell : ((place : ℕ) → place < mostPlayers → Row place) → UnusedEntries n R cells
   by-cell h i l unused =
-      let p = by-player .place-in i l in
       let r = by-player .round-in i l in
-      let k : ℕ = turnOf (placeIn i) (roundIn i) in
-      let a : placeAt k ≡ placeIn i = turn-place (placeIn i) (roundIn i) p (r .0) (r .1) in
-      let b : roundAt k ≡ roundIn i = turn-round (placeIn i) (roundIn i) p (r .0) (r .1) in
-      ap (λ (j : ℕ). getD cells j 0) (sym (ap₂ cellOf a b ∙ by-player .back i l))
-      ∙ h k (turn-in (placeIn i) (roundIn i) p (r .0) (r .1)) (λ u. unused (subst (λ (x : ℕ). x < n) a (u .0), subst (λ (x : ℕ). x ≤ R) b (u .1)))
+      let j : ℕ = roundIn i - 1 in
+      let e : j + 1 ≡ roundIn i = omega (arith, r .0) in
+      ap (λ (c : ℕ). getD cells c 0) (sym (ap (cellOf (placeIn i)) e ∙ by-player .back i l))
+      ∙ h (placeIn i) (by-player .place-in i l) j (go (decLt (placeIn i) n)) (omega (arith, r .0, r .1))
+    where
+      go : Dec (placeIn i < n) → unusedFrom n R (placeIn i) ≤ roundIn i - 1
+      go (yes a) = subst (λ (x : ℕ). x ≤ roundIn i - 1) (used-from n R (placeIn i) a) (past (decLt R (roundIn i)))
+        where
+          past : Dec (R < roundIn i) → R ≤ roundIn i - 1
+          past (yes b) = omega arith
+          past (no b) = let z : R < roundIn i → ⊥ = b in absurd (unused (a, omega arith))
+      go (no a) = let z : placeIn i < n → ⊥ = a in subst (λ (x : ℕ). x ≤ roundIn i - 1) (unused-all n R (placeIn i) (omega arith)) (omega arith)
 
-  by-turn : UnusedEntries n R cells → (k : ℕ) → k < entryCells → UnusedTurn k
-  by-turn h k l unused =
-      let p : placeAt k < mostPlayers = omega arith in
-      let low : 1 ≤ roundAt k = omega arith in
-      let high : roundAt k ≤ mostRounds = omega arith in
-      let a : placeIn (turnCell k) ≡ placeAt k = by-player .place-of (placeAt k) (roundAt k) p low high in
-      let b : roundIn (turnCell k) ≡ roundAt k = by-player .round-of (placeAt k) (roundAt k) p low high in
-      h (turnCell k) (by-player .within (placeAt k) (roundAt k) p low high) (λ u. unused (subst (λ (x : ℕ). x < n) a (u .0), subst (λ (x : ℕ). x ≤ R) b (u .1)))
+  by-row : UnusedEntries n R cells → (place : ℕ) → place < mostPlayers → Row place
+  by-row h place p j from high =
+      let low : 1 ≤ j + 1 = omega arith in
+      let top : j + 1 ≤ mostRounds = omega arith in
+      let a : placeIn (cellOf place (j + 1)) ≡ place = by-player .place-of place (j + 1) p low top in
+      let b : roundIn (cellOf place (j + 1)) ≡ j + 1 = by-player .round-of place (j + 1) p low top in
+      h (cellOf place (j + 1)) (by-player .within place (j + 1) p low top)
+      (λ u. not-used (subst (λ (x : ℕ). x < n) a (u .0)) (subst (λ (x : ℕ). x ≤ R) b (u .1)))
+    where
+      not-used : place < n → j + 1 ≤ R → ⊥
+      not-used s t = let z = used-from n R place s in omega (arith, z, from)
 
-  pub entries-told : {good : Bool} → Told ((k : ℕ) → k < entryCells → UnusedTurn k) good → Told (UnusedEntries n R cells) good
-  entries-told t = told-as by-cell by-turn t
+  pub entries-told : {good : Bool} → Told ((place : ℕ) → place < mostPlayers → Row place) good → Told (UnusedEntries n R cells) good
+  entries-told t = told-as by-cell by-row t
 
-  -- i is the cell of turn k
-  pub turn-told : (k i : ℕ) → i ≡ turnCell k → {used : Bool} → Told ((placeAt k < n) × (roundAt k ≤ R)) used → Told (UnusedTurn k) (used || eqb (getD cells i 0) 0)
-  turn-told k i e t = told-unless t (subst (λ (j : ℕ). Told (getD cells j 0 ≡ 0) (eqb (getD cells i 0) 0)) e (told-eq (getD cells i 0) 0))
+  pub row-told : (place : ℕ) {from : ℕ} → from ≡ unusedFrom n R place → {good : Bool} → Told (UnusedRow cells place from) good → Told (Row place) good
+  row-told place e {good} t = subst (λ (x : ℕ). Told (UnusedRow cells place x) good) e t

@@ -11,21 +11,22 @@ ghost use Rattle.law.specs.Lines.{allowed};
 ghost use Rattle.law.specs.Accelerations.{isAcceleration};
 ghost use Rattle.law.specs.Players.{SpellsKept};
 ghost use Rattle.law.specs.Lawful.{noAcceleration};
-ghost use Rattle.law.specs.Tables.{keptCells, entryCells, cellOf};
+ghost use Rattle.law.specs.Tables.{keptCells, entryCells};
 ghost use Rattle.join.specs.Store.{placeOf};
-ghost use Rattle.join.specs.Check.{placeAt, roundAt};
 ghost use Rattle.checks.specs.Index.{IndexOf};
 ghost use Rattle.checks.specs.Laws.{Indexed};
 ghost use Rattle.texts.specs.Kept.{Told};
 ghost use Rattle.readings.specs.Good.{Unused, UnusedEntries, keptAt};
+ghost use Rattle.held.specs.Rows.{unusedFrom, UnusedRow};
 use checks::Placed;
 use checks::START_CELLS;
 use types::Acceleration;
-use types::ENTRIES;
 use types::KEPT_COLUMNS;
 use types::MOST_ACCELERATIONS;
+use types::MOST_PLAYERS;
 use types::MOST_POINTS;
 use types::MOST_RANK;
+use types::MOST_ROUNDS;
 use types::MOST_START;
 use types::Place;
 use types::StartNumber;
@@ -88,22 +89,43 @@ pub fn ranks_are(ranks: &[u32], n: usize) -> bool
     numbers_within(ranks, 0, n, 1, MOST_RANK)
 }
 
-// The cell of a turn in an entry table, and whether it is one of the first players up to a round.
-fn turn_cell(k: usize) -> usize
-    requires { ⌜ k < entryCells ⌝ }
-    ensures { λ r. ⌜ (r ≡ cellOf (placeAt k) (roundAt k)) × (r < entryCells) ⌝ }
+// The rounds of a place that no player has: from which one on, counted from 0.
+fn unused_from(p: usize, players: usize, rounds: u32) -> usize
+    ensures { λ r. ⌜ r ≡ unusedFrom players rounds p ⌝ }
 {
-    tables::cell_of(checks::place_at(k), checks::round_at(k))
+    if p < players {
+        return rounds as usize;
+    }
+    0
 }
 
-fn is_used(k: usize, players: usize, rounds: u32) -> bool
-    requires { ⌜ k < entryCells ⌝ }
-    ensures { λ r. ⌜ Told ((placeAt k < players) × (roundAt k ≤ rounds)) r ⌝ }
+// Whether the cells of a place in an entry table hold zero from a round on, counted from 0.
+fn row_unused_numbers(t: &[u32], place: Place, from: usize) -> bool
+    requires { ⌜ (place .0 < mostPlayers) × (entryCells ≤ length (now t)) ⌝ }
+    ensures { λ r. ⌜ Told (UnusedRow (now (t .entry)) (place .0) from) r ⌝ }
 {
-    let place = checks::place_at(k);
-    let round = checks::round_at(k);
-    let p = tables::own_cell(place);
-    (p < players) & (round <= rounds)
+    let mut good = true;
+    let mut j = from;
+    while j < MOST_ROUNDS {
+        let i = tables::cell_of(place, j as u32 + 1);
+        good = good & (t[i] == 0);
+        j += 1;
+    }
+    good
+}
+
+fn row_unused_letters(t: &[u8], place: Place, from: usize) -> bool
+    requires { ⌜ (place .0 < mostPlayers) × (entryCells ≤ length (now t)) ⌝ }
+    ensures { λ r. ⌜ Told (UnusedRow (now (t .entry)) (place .0) from) r ⌝ }
+{
+    let mut good = true;
+    let mut j = from;
+    while j < MOST_ROUNDS {
+        let i = tables::cell_of(place, j as u32 + 1);
+        good = good & (t[i] == 0);
+        j += 1;
+    }
+    good
 }
 
 // Whether the cells of an entry table that no player has up to a round hold zero.
@@ -112,12 +134,11 @@ pub fn entries_unused_numbers(t: &[u32], players: usize, rounds: u32) -> bool
     ensures { λ r. ⌜ Told (UnusedEntries players rounds (now (t .entry))) r ⌝ }
 {
     let mut good = true;
-    let mut k = 0;
-    while k < ENTRIES {
-        let i = turn_cell(k);
-        let used = is_used(k, players, rounds);
-        good = good & (used | (t[i] == 0));
-        k += 1;
+    let mut p = 0;
+    while p < MOST_PLAYERS {
+        let from = unused_from(p, players, rounds);
+        good = good & row_unused_numbers(t, Place(p as u32), from);
+        p += 1;
     }
     good
 }
@@ -127,12 +148,11 @@ pub fn entries_unused_letters(t: &[u8], players: usize, rounds: u32) -> bool
     ensures { λ r. ⌜ Told (UnusedEntries players rounds (now (t .entry))) r ⌝ }
 {
     let mut good = true;
-    let mut k = 0;
-    while k < ENTRIES {
-        let i = turn_cell(k);
-        let used = is_used(k, players, rounds);
-        good = good & (used | (t[i] == 0));
-        k += 1;
+    let mut p = 0;
+    while p < MOST_PLAYERS {
+        let from = unused_from(p, players, rounds);
+        good = good & row_unused_letters(t, Place(p as u32), from);
+        p += 1;
     }
     good
 }

@@ -64,6 +64,9 @@ pub fn past(colours: &[u8], lines: &[u32], n: usize, rounds: u32) -> Verdict
     requires { ⌜ (n ≤ mostPlayers) × (entryCells ≤ length (now colours)) × (lineCells ≤ length (now lines)) ⌝ }
     ensures { λ r. ⌜ r ≡ asVerdict (to (atPlayer (fileFaultNumber past-142) (now (lines .entry))) (firstFrom (pastCell rounds (now (colours .entry))) 0 (n * mostRounds))) ⌝ }
 {
+    if glances::none_past(colours, n, rounds) {
+        return nothing();
+    }
     at_turn(11, lines, checks::first_past(colours, n, rounds))
 }
 

@@ -3,7 +3,6 @@ use borrow.Author.Tests.{not-false}
 use Rattle.kit.proofs.Bools.{clash}
 use Rattle.checks.specs.Laws.{four}
 use Rattle.glances.proofs.Laws.{none-found}
-use borrow.Author.Needs.{needs}
 use Rattle.glances.proofs.all_lawful.Statement.{statement}
 use Rattle.glances.proofs.all_lawful.Tie as tie
 

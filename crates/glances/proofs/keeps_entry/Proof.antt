@@ -36,25 +36,16 @@ is-bye-requires : tie.Need-is-bye-requires
 is-bye-requires c κs = search needs
 
 returns : tie.Need-returns
-returns c = λ t n x. bye-keeps n _ _ _ _ _ _ (c .before .before .before .before .before .before .before .cell-of .ensures .0) (c .before .before .before .place-of .ensures _ n (x .says) (x .low)) (c .before .enum-told .given .1) (c .is-bye .ensures) t
-
-own-cell-requires : tie.Need-own-cell-requires
-own-cell-requires c κs = search needs
-
-mul-start : tie.Need-mul-start
-mul-start c = search needs
-
-shared-slice-read-start : tie.Need-shared-slice-read-start
-shared-slice-read-start c = search needs
+returns c = λ t starts n s x. bye-keeps n starts _ _ _ _ _ (c .before .before .before .before .before .before .before .cell-of .ensures .0) (c .before .before .before .place-of .ensures starts n (x .says) (x .low)) (c .before .enum-told .given .1) (c .is-bye .ensures) t
 
 returns-2 : tie.Need-returns-2
 returns-2 c = λ e. clash e
 
 cell-of-requires-2 : tie.Need-cell-of-requires-2
 cell-of-requires-2 c κs =
-    let start : tie.Start = c .before .before .before .before .before .before .before .before .before .before .before .before .before .before .before in
-    let x = start .pre .1 .1 .indexed in
-    let found = told-player _ _ _ (c .before .before .before .before .before .before .place-of .ensures _ _ (x .says) (x .low)) (c .before .before .before .before .opponent .given .1) in
+    let start : tie.Start = c .before .before .before .before .before .before .before .before .before .before .before .before .before in
+    let x = start .pre .1 .3 .indexed in
+    let found = told-player _ _ _ (c .before .before .before .before .before .place-of .ensures _ _ (x .says) (x .low)) (c .before .before .before .opponent .given .1) in
     (omega (arith, x .few, found), start .pre .0 .1, start .pre .0 .2)
 
 mul-if2 : tie.Need-mul-if2
@@ -83,9 +74,9 @@ are-one-game-requires c κs = search needs
 
 returns-5 : tie.Need-returns-5
 returns-5 c =
-    λ t n x.
-    game-keeps n _ _ _ _ _ _ (c .before .before .before .before .before .before .before .before .before .before .before .before .before .before .before .before .before .before .cell-of .ensures .0) (c .before .before .before .before .before .before .before .before .before .before .before .before .before .before .place-of .ensures _ n (x .says) (x .low)) (c .before .before .before .before .before .before .before .before .before .before .before .before .opponent .given .1) (c .before .before .before .before .before .before .before .cell-of2 .ensures .0) (c .before .before .before .before .before .before .before .before .before .before .own-cell .ensures .0)
-    (c .before .before .before .before .before .before .before .before .if1 .left) (c .before .before .before .before .before .if2 .left) (c .before .before .before .are-opposite .ensures (not-false _ (c .before .before .if3 .left))) (c .are-one-game .ensures t)
+    λ t starts n s x.
+    game-keeps n starts _ _ _ _ _ (c .before .before .before .before .before .before .before .before .before .before .before .before .before .before .before .before .before .before .cell-of .ensures .0) (c .before .before .before .before .before .before .before .before .before .before .before .before .before .before .place-of .ensures starts n (x .says) (x .low)) (c .before .before .before .before .before .before .before .before .before .before .before .before .opponent .given .1) (c .before .before .before .before .before .before .before .before .cell-of2 .ensures .0) s
+    (c .before .before .before .before .before .before .before .before .before .if1 .left) (c .before .before .before .before .before .if2 .left) (c .before .before .before .are-opposite .ensures (not-false _ (c .before .before .if3 .left))) (c .are-one-game .ensures t)
 
 pub keeps-entry-spec : {M : Type 1} → statement M
 keeps-entry-spec =
@@ -101,9 +92,6 @@ keeps-entry-spec =
     enum-told
     is-bye-requires
     returns
-    own-cell-requires
-    mul-start
-    shared-slice-read-start
     returns-2
     cell-of-requires-2
     mul-if2

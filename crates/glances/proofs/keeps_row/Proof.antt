@@ -1,7 +1,8 @@
 -- `glances::keeps_row` meets its contract. The loop's invariant: the entries of the first j rounds keep the laws. Assumes nothing.
+use mathlib.Core.Path.{sym, ap}
 use native.Mathlib.Omega.{arith}
-use mathlib.Core.List.{List}
 use Prim.Native.Nat.{ℕ, _+_, _-_}
+use lib.ListN.{getD}
 use borrow.Author.Tests.{not-false}
 use borrow.Author.Count.{below-more}
 use Rattle.kit.proofs.Bools.{clash}
@@ -12,10 +13,19 @@ use Rattle.glances.proofs.keeps_row.Statement.{statement}
 use Rattle.glances.proofs.keeps_row.Tie as tie
 
 abbrev Inv-loop : tie.InvT-loop
-Inv-loop place starts opponents colours results index rounds j₀ j = (n : ℕ) → Indexed starts n index → KeepsRow n (four starts opponents colours results) (place .0) j
+Inv-loop place starts opponents colours results index rounds own start j₀ j = (n : ℕ) → Indexed starts n index → KeepsRow n (four starts opponents colours results) (place .0) j
 
 abbrev μ-loop : tie.MeasureT-loop
-μ-loop place starts opponents colours results index rounds j₀ j = rounds - j
+μ-loop place starts opponents colours results index rounds own start j₀ j = rounds - j
+
+own-cell-requires : tie.Need-own-cell-requires Inv-loop μ-loop
+own-cell-requires c κs = search needs
+
+mul-t11 : tie.Need-mul-t11 Inv-loop μ-loop
+mul-t11 c = search needs
+
+shared-slice-read-t13 : tie.Need-shared-slice-read-t13 Inv-loop μ-loop
+shared-slice-read-t13 c = search needs
 
 loop-holds : tie.Need-loop-holds Inv-loop μ-loop
 loop-holds c = λ n x k l. absurd (omega arith)
@@ -24,7 +34,10 @@ add-keeps-entry : tie.Need-add-keeps-entry Inv-loop μ-loop
 add-keeps-entry c = search needs
 
 keeps-entry-requires : tie.Need-keeps-entry-requires Inv-loop μ-loop
-keeps-entry-requires c κs = search needs
+keeps-entry-requires c κs =
+    let start : tie.Start Inv-loop μ-loop = c .before .before .before .before .before .before .before .before in
+    let long = start .pre .1 .0 in
+    ((start .pre .0 .0, omega arith, omega (arith, c .loop-test .taken, start .pre .0 .1)), (long .opponents-long, long .colours-long, long .results-long, start .pre .1 .1))
 
 returns : tie.Need-returns Inv-loop μ-loop
 returns c = λ e. clash e
@@ -37,10 +50,10 @@ loop-less c = search needs
 
 loop-again : tie.Need-loop-again Inv-loop μ-loop
 loop-again c =
-    let a = c .before .before .before .before .before .before .before .before .args in
+    let a = c .before .before .before .before .before .before .before .before .before .before .args in
     λ n x.
     below-more (λ k. KeepsEntry n (four (a .starts .now) (a .opponents .now) (a .colours .now) (a .results .now)) (a .place .0) (k + 1)) (c .before .before .before .loop .j) (c .before .before .before .loop .inv n x)
-    (c .before .keeps-entry .ensures (not-false _ (c .if1 .left)) n x)
+    (c .before .keeps-entry .ensures (not-false _ (c .if1 .left)) (a .starts .now) n (ap (λ (i : ℕ). getD (a .starts .now) i 0) (sym (c .before .before .before .before .before .own-cell .ensures .0))) x)
 
 returns-2 : tie.Need-returns-2 Inv-loop μ-loop
 returns-2 c = λ _ n x k l. c .before .loop .inv n x k (omega (arith, l, c .loop-test .left))
@@ -51,6 +64,9 @@ keeps-row-spec =
     (tie.spec
     Inv-loop
     μ-loop
+    own-cell-requires
+    mul-t11
+    shared-slice-read-t13
     loop-holds
     add-keeps-entry
     keeps-entry-requires

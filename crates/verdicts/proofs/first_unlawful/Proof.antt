@@ -1,8 +1,6 @@
 -- `verdicts::first_unlawful` meets its contract. Assumes nothing.
-use mathlib.Core.Path.{_≡_}
-use Prim.Native.Nat.{ℕ, _*_}
+use Prim.Native.Nat.{_*_}
 use native.Mathlib.Omega.{arith}
-use denote.Ref.{now}
 use borrow.Author.Needs.{needs}
 use Rattle.kit.specs.Decides.{orElse}
 use Rattle.law.specs.Sizes.{mostRounds}
