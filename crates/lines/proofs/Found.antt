@@ -1,5 +1,5 @@
 -- What a CR that was found, and the byte after it, say of the lines that are left. Assumes nothing.
-use mathlib.Core.Path.{_≡_, refl, sym, ap, _∙_}
+use mathlib.Core.Path.{_≡_, refl, sym, ap, _∙_, subst}
 use mathlib.Core.Bool.{true, false, and-false}
 use mathlib.Core.Option.{none}
 use mathlib.Core.List.{List, [], _∷_, _++_, append-nil}
@@ -184,9 +184,17 @@ module _ {file : List ℕ} {at r : ℕ} (s : Stop file at (length file) r) where
       bad : all allowed (text ++ p .0 .text) ≡ false
       bad = all-same allowed text (p .0 .text) ∙ rw (p .4, s .there l) (and-false (all allowed text))
 
--- ---- a CR at the place itself: an empty line
-pub cr-here : {file : List ℕ} {at : ℕ} → at < length file → getD file at 0 ≡ CR → CRFrom file at at
-cr-here l e = record { after = omega arith; within = omega arith; none-before = λ k p q _. absurd (omega arith); there = λ _. e }
+-- ---- a CR after a clean part, and the mark of a comment
+pub stop-here : {file : List ℕ} {at r : ℕ} → at ≤ r → r < length file → Clean file at r → getD file r 0 ≡ CR → Stop file at (length file) r
+stop-here l m h e = record { after = l; within = omega arith; clean = h; there = λ _. ap allowed e }
 
-pub empty-clean : (file : List ℕ) (at : ℕ) → all allowed (take (at - at) (drop at file)) ≡ true
-empty-clean file at = let e : at - at ≡ 0 = omega arith in rw e refl
+pub clean-none : (file : List ℕ) (at : ℕ) → Clean file at at
+clean-none file at k l m = absurd (omega arith)
+
+pub clean-mark : (file : List ℕ) (at : ℕ) → getD file at 0 ≡ 35 → getD file (at + 1) 0 ≡ 35 → getD file (at + 2) 0 ≡ 35 → Clean file at (at + 3)
+clean-mark file at e f g =
+    let one = clean-more file at at (clean-none file at) (ap allowed e) in
+    let two = clean-more file at (at + 1) one (ap allowed f) in
+    let a : at + 1 + 1 ≡ at + 2 = omega arith in
+    let b : at + 2 + 1 ≡ at + 3 = omega arith in
+    subst (Clean file at) b (clean-more file at (at + 2) (subst (Clean file at) a two) (ap allowed g))

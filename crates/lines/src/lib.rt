@@ -17,6 +17,9 @@ const BLOCK: usize = 32;
 
 const NEAR: usize = 4;
 
+// How many bytes mark a comment.
+const MARK: usize = 3;
+
 // The place where the next line starts.
 pub struct Cursor {
     pub at: usize,
@@ -123,6 +126,26 @@ fn stop_from(file: &[u8], at: usize) -> usize
     stop_within(file, at, file.len())
 }
 
+// Past the mark of a comment, if one stands there and is not the file's end: the shortest comments are many too.
+fn past_mark(file: &[u8], at: usize) -> usize
+    requires { ⌜ (at < length (now file)) × (length (now file) ≤ mostFile) ⌝ }
+    ensures { λ r. ⌜ (at ≤ r) × (r < length (now (file .entry))) × Clean (now (file .entry)) at r ⌝ }
+{
+    if file.len() <= at + MARK {
+        return at;
+    }
+    if file[at] != b'#' {
+        return at;
+    }
+    if file[at + 1] != b'#' {
+        return at;
+    }
+    if file[at + 2] != b'#' {
+        return at;
+    }
+    at + MARK
+}
+
 // The line of allowed bytes from a place up to its CR, with the LF after that if there is one.
 fn whole(file: &[u8], from: usize, to: usize) -> Step
     requires { ⌜ (to < length (now file)) × (length (now file) ≤ mostFile) × CRFrom (now file) from to × (all allowed (take (to - from) (drop from (now file))) ≡ true) ⌝ }
@@ -158,7 +181,7 @@ impl Cursor {
         Cursor { at: 0 }
     }
 
-    // The line at the cursor. An empty one is told at once, since a file may have many.
+    // The line at the cursor. An empty one, or an empty comment, is told at once, since a file may have many.
     pub fn next_line(self, file: &[u8]) -> Step
         requires { ⌜ length (now file) ≤ mostFile ⌝ }
         ensures { λ r. ⌜ StepMeans (now (file .entry)) (self .at) r ⌝ }
@@ -167,10 +190,11 @@ impl Cursor {
         if file.len() <= at {
             return Step::Done;
         }
-        if file[at] == CR {
-            return whole(file, at, at);
+        let start = past_mark(file, at);
+        if file[start] == CR {
+            return whole(file, at, start);
         }
-        let to = stop_from(file, at);
+        let to = stop_from(file, start);
         if file.len() <= to {
             return Step::Broken;
         }
