@@ -45,7 +45,7 @@ fn overlap(first: u32, last: u32, first_other: u32, last_other: u32) -> bool
 }
 
 // Whether two records share a round and a start number.
-pub fn shares(a: Acceleration, b: Acceleration) -> bool
+fn shares(a: Acceleration, b: Acceleration) -> bool
     ensures { λ r. ⌜ r ≡ accelerations.shares a b ⌝ }
 {
     let rounds = overlap(a.first_round, a.last_round, b.first_round, b.last_round);
@@ -66,7 +66,7 @@ fn is_pair(a: u8, b: u8) -> bool
 }
 
 // Whether two results are those of one game.
-pub fn fits(a: u8, b: u8) -> bool
+fn fits(a: u8, b: u8) -> bool
     ensures { λ r. ⌜ r ≡ entries.fits a b ⌝ }
 {
     let one = is_pair(a, b);
@@ -106,7 +106,7 @@ fn earns_pairing(result: u8) -> bool
 }
 
 // What a result earns by the values of W D L A P X.
-pub fn worth(values: [u32; 6], result: u8) -> u32
+fn worth(values: [u32; 6], result: u8) -> u32
     ensures { λ r. ⌜ r ≡ worthBy values result ⌝ }
 {
     if earns_win(result) {

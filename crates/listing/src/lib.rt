@@ -58,7 +58,7 @@ fn put_digits(out: &mut [u8], at: usize, n: u32, most: usize) -> usize
 }
 
 // A number in decimal, with no filling.
-pub fn put_number(out: &mut [u8], at: usize, n: u32) -> usize
+fn put_number(out: &mut [u8], at: usize, n: u32) -> usize
     requires { ⌜ at + 10 ≤ length (now out) ⌝ }
     ensures { λ r. ⌜ Put (decimal n) at (now (out .entry)) r (now (out .exit)) × (r ≤ at + 10) ⌝ }
 {
@@ -120,7 +120,7 @@ fn put_standing(out: &mut [u8], at: usize, start: u32, points: u32, rank: u32) -
 }
 
 // A player's line.
-pub fn put_player(
+fn put_player(
     out: &mut [u8],
     at: usize,
     place: Place,

@@ -77,7 +77,7 @@ fn letters_stored(
 }
 
 // A player at a place, from a line of the file.
-pub fn store_player(
+fn store_player(
     row: Row,
     place: Place,
     line: LineNumber,

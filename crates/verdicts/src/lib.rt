@@ -42,7 +42,7 @@ fn nothing() -> Verdict
 }
 
 // The refusal of a turn: its player's line, and its round.
-pub fn at_turn(number: u32, lines: &[u32], found: Found) -> Verdict
+fn at_turn(number: u32, lines: &[u32], found: Found) -> Verdict
     requires { ⌜ (lineCells ≤ length (now lines)) × FoundUnder found entryCells ⌝ }
     ensures { λ r. ⌜ ((o : Option ℕ) → found ≡ asFound o → r ≡ asVerdict (to (atPlayer number (now (lines .entry))) o)) ⌝ }
 {
@@ -121,7 +121,7 @@ fn law_number(kind: LawKind) -> u32
 }
 
 // The first turn whose entry breaks a law, refused by that law's number.
-pub fn broken(
+fn broken(
     kind: LawKind,
     starts: &[u32],
     opponents: &[u32],
