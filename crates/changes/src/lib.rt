@@ -4,15 +4,16 @@ ghost use lib.ListN.{length};
 use types::Acceleration;
 use types::Answer;
 use types::LineNumber;
+use types::MOST_ACCELERATIONS;
 
 // The lengths of the tables that are changed: one cell more than is listed.
-pub const PLAYERS: usize = 201;
+pub const PLAYERS: usize = types::MOST_PLAYERS + 1;
 
-pub const KEPT: usize = 14001;
+pub const KEPT: usize = types::KEPT + 1;
 
-pub const ENTRIES: usize = 4001;
+pub const ENTRIES: usize = types::ENTRIES + 1;
 
-pub const TEXT: usize = 2049;
+pub const TEXT: usize = types::MOST_TEXT + 1;
 
 // The parts of a reading: the lent tables in the order of the parameters, the fields of the acceleration records, and those of the answer.
 pub const STARTS: u32 = 1;
@@ -181,10 +182,13 @@ fn change_record(a: Acceleration, c: Case) -> Acceleration {
     b
 }
 
-pub fn change_records(all: [Acceleration; 32], c: Case) -> [Acceleration; 32] {
+pub fn change_records(
+    all: [Acceleration; MOST_ACCELERATIONS],
+    c: Case,
+) -> [Acceleration; MOST_ACCELERATIONS] {
     let mut records = all;
     let cell = c.cell;
-    if cell < 32 {
+    if cell < MOST_ACCELERATIONS {
         records[cell] = change_record(all[cell], c);
     }
     records

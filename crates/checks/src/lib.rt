@@ -1,5 +1,6 @@
-// The searches over the tables after the last line: the number of rounds, the closing pass, and the first cell, player or record that breaks a law. Each
-// answers what the pure definition of join says. A search is one loop over its cells, player by player and each round by round.
+// What is asked of the tables after the last line: the number of rounds, the closing pass, the first cell, player or record that breaks a law; and the index
+// of start numbers. Each answers what the pure definition of join says. A search is one loop over its cells, player by player and each round by round; the closing
+// pass has a function for one player.
 ghost use mathlib.Core.Path.{_≡_};
 ghost use mathlib.Core.Bool.{true, cond, _&&_};
 ghost use mathlib.Core.Option.{Option};

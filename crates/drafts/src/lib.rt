@@ -27,7 +27,7 @@ ghost use lib.ListN.{length};
 ghost use Rattle.io.specs.Counts.{Counts};
 
 // One byte more than a file may have.
-pub const ROOM: usize = 65536;
+pub const ROOM: usize = types::MOST_FILE + 1;
 
 // Where the file ends; where the other text ends that stands after it, if the file is closed.
 pub struct Draft {

@@ -89,7 +89,7 @@ pub fn ranks_are(ranks: &[u32], n: usize) -> bool
     numbers_within(ranks, 0, n, 1, MOST_RANK)
 }
 
-// The rounds of a place that no player has: from which one on, counted from 0.
+// From which round on, counted from 0, a place's cells are unused: past the rounds of a player, all of a place that no player has.
 fn unused_from(p: usize, players: usize, rounds: u32) -> usize
     ensures { λ r. ⌜ r ≡ unusedFrom players rounds p ⌝ }
 {
@@ -128,7 +128,7 @@ fn row_unused_letters(t: &[u8], place: Place, from: usize) -> bool
     good
 }
 
-// Whether the cells of an entry table that no player has up to a round hold zero.
+// Whether the unused cells of an entry table hold zero.
 pub fn entries_unused_numbers(t: &[u32], players: usize, rounds: u32) -> bool
     requires { ⌜ (players ≤ mostPlayers) × (rounds ≤ mostRounds) × (entryCells ≤ length (now t)) ⌝ }
     ensures { λ r. ⌜ Told (UnusedEntries players rounds (now (t .entry))) r ⌝ }

@@ -19,7 +19,7 @@ use steps::Counts;
 use types::LineNumber;
 use verdicts::Verdict;
 
-// Whether there is neither a name nor a player missing.
+// Whether there are a 012 and a player (else 10).
 fn is_complete(c: Counts) -> bool
     ensures { λ r. ⌜ r ≡ isComplete (asCount c) ⌝ }
 {

@@ -1,6 +1,6 @@
 // The lines of a file, one after the other, and the bytes that a line may hold. A cursor is a place in the file; a step from it finds the first line of
-// what is left and the cursor after it. Promised: the lines found are those that the statement cuts the file into, with their terminators; a line passes
-// exactly where each of its bytes is allowed.
+// what is left and the cursor after it. Promised: the lines found are those that the statement cuts the file into, with their terminators; a line is
+// Whole exactly where it is ended and each of its bytes is allowed.
 ghost use mathlib.Core.Path.{_≡_};
 ghost use mathlib.Core.Bool.{true, not};
 ghost use Prim.Native.Nat.{_-_, _≤_, _<_};
@@ -25,8 +25,8 @@ pub struct Cursor {
     pub at: usize,
 }
 
-// What stands at a cursor: a line with its terminator, of allowed bytes, and the cursor past that; a last line without one; a line with a byte that is not allowed, with or
-// without its terminator; no line. A line's text is file[from..to].
+// What stands at a cursor: a line with its terminator, of allowed bytes, and the cursor past that; a last line without one; a line with a byte that is not
+// allowed, with or without its terminator; no line. A line's text is file[from..to].
 pub enum Step {
     Whole {
         from: usize,
@@ -109,8 +109,8 @@ fn stop_within(file: &[u8], at: usize, to: usize) -> usize
     i
 }
 
-// The place of the first byte from a place on that is not allowed, or the file's length: after a few bytes block by block, since most lines are long and the
-// shortest are many.
+// The place of the first byte from a place on that is not allowed, or the file's length: a few bytes one by one, since a file may be made of the shortest lines,
+// then block by block, since most are long.
 fn stop_from(file: &[u8], at: usize) -> usize
     requires { ⌜ (at ≤ length (now file)) × (length (now file) ≤ mostFile) ⌝ }
     ensures { λ r. ⌜ Stop (now (file .entry)) at (length (now (file .entry))) r ⌝ }
@@ -126,7 +126,7 @@ fn stop_from(file: &[u8], at: usize) -> usize
     stop_within(file, at, file.len())
 }
 
-// Past the mark of a comment, if one stands there and is not the file's end: the shortest comments are many too.
+// Past the mark of a comment where a byte stands after it, else the place itself: a file may be made of the shortest comments.
 fn past_mark(file: &[u8], at: usize) -> usize
     requires { ⌜ (at < length (now file)) × (length (now file) ≤ mostFile) ⌝ }
     ensures { λ r. ⌜ (at ≤ r) × (r < length (now (file .entry))) × Clean (now (file .entry)) at r ⌝ }

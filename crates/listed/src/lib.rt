@@ -16,7 +16,7 @@ use types::MOST_PLAYERS;
 use types::MOST_TEXT;
 
 // One byte more than the largest file, so that a larger one is seen to be larger: no more is read of it.
-pub const MOST_READ: usize = 65536;
+pub const MOST_READ: usize = types::MOST_FILE + 1;
 
 // The bytes of a file's listing, from the first byte of `out` on, and how many there are.
 pub fn list_file(file: &[u8], out: &mut [u8; LISTING]) -> usize

@@ -18,7 +18,7 @@ use types::Place;
 const DIGITS: usize = 10;
 
 // The most bytes of a whole listing, of the answer's line in it, and of a player's.
-pub const LISTING: usize = ANSWER_LINE + 200 * PLAYER_LINE;
+pub const LISTING: usize = ANSWER_LINE + types::MOST_PLAYERS * PLAYER_LINE;
 
 pub const ANSWER_LINE: usize = 42;
 

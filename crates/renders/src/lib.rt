@@ -1,6 +1,6 @@
 // The writer's leaves: each record of the report file put into the lent output from a position on, which is answered moved past it. Promised: the bytes are
-// the statement's line, and every byte outside them, and the output's length, are as before. The records stand in the order of `records`, whose functions
-// read what is put here.
+// the statement's line, and every byte outside them, and the output's length, are as before. The records stand in the order of `records`, `scorings` and
+// `rows`, whose functions read what is put here.
 ghost use mathlib.Core.Path.{_≡_};
 ghost use mathlib.Core.Bool.{cond};
 ghost use mathlib.Core.List.{[], _∷_, map};
@@ -257,7 +257,7 @@ pub fn put_scoring(out: &mut [u8], at: usize, values: [u32; 6]) -> usize
     put_value(out, at, BETWEEN_SLOTS, b'X', values[5])
 }
 
-// An opponent's start number, or zeros for a bye; `fields::number_or_blank` reads it.
+// An opponent's start number, or zeros for a bye; `fields::number_of` reads it.
 fn put_id(out: &mut [u8], at: usize, id: StartNumber) -> usize
     requires { ⌜ at + width (idField 1) ≤ length (now out) ⌝ }
     ensures { λ r. ⌜ Puts (idText (width (idField 1)) (id .0)) (width (idField 1)) at (now (out .entry)) (now (out .exit)) r ⌝ }

@@ -1,4 +1,5 @@
-// A 001 line, by value: its player's numbers, its kept columns and its rounds. A line against its rule is refusal 7, which Bad, and not good, stands for.
+// A 001 line, by value: its player's numbers, its kept columns and its rounds. A line against its rule is refusal 7: Slot's Bad; Slots and Row
+// with good false.
 use fields::Number;
 use fields::Points;
 use types::KEPT_COLUMNS;
@@ -226,7 +227,7 @@ fn no_row() -> Row
     }
 }
 
-// A line that has all the columns: none is tested to be there.
+// A line that has all the columns: those of its rounds and the kept ones are taken without a test.
 fn wide_player(line: &[u8]) -> Row
     requires { ⌜ playerColumns ≤ length (now line) ⌝ }
     ensures { λ r. ⌜ RowSays (playerOf (now (line .entry))) r ⌝ }

@@ -1,4 +1,4 @@
-// The run over the lines of a file: each line is refused or stored. Promised: the run over the statement's lines, and where it stops.
+// The run over the lines of a file: each line is passed over, stored or refused. Promised: the run over the statement's lines, and where it stops.
 ghost use mathlib.Core.Path.{_≡_};
 ghost use mathlib.Core.Bool.{true, false};
 ghost use Prim.Native.Nat.{ℕ, _+_, _≤_};

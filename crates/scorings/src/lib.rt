@@ -1,5 +1,5 @@
-// A 162 line, by value: the values of W D L A P X that it gives, and the defaults of those that it does not. A line against its rule is refusal 7, which
-// Bad, and not good, stands for.
+// A 162 line, by value: the values of W D L A P X that it gives, and the defaults of those that it does not. A line against its rule is refusal 7:
+// Value's Bad; Given and Scored with good false.
 use fields::Points;
 ghost use mathlib.Core.Path.{_≡_};
 ghost use mathlib.Core.Option.{some};

@@ -1,4 +1,4 @@
-// What one line of the file does: its record is read, and stored in the lent tables and the counts beside them, or the line is refused by 3 to 9. Promised:
+// What one line of the file does: its record is read, and stored in the lent tables and the counts beside them, or the line is refused by 7, 8 or 9. Promised:
 // each step is join's, on every content of the tables.
 ghost use mathlib.Core.Path.{_≡_};
 ghost use Prim.Native.Nat.{ℕ, _+_, _≤_, _<_};

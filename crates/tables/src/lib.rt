@@ -131,7 +131,7 @@ pub fn kept_at(t: &[u8], place: Place) -> [u8; KEPT_COLUMNS]
     cells::get_kept(t, place.0 as usize * KEPT_COLUMNS)
 }
 
-// A player's opponents, round by round; and his colours, or results.
+// A player's opponents, round by round; and the colours, or results.
 pub fn store_numbers(t: &mut [u32], place: Place, row: [u32; MOST_ROUNDS])
     requires { ⌜ (place .0 < mostPlayers) × (entryCells ≤ length (now t)) ⌝ }
     ensures { λ _. ⌜ now (t .exit) ≡ putRow cellOf (now (t .entry)) (place .0) row mostRounds ⌝ }

@@ -1,4 +1,4 @@
-// The four counts that must not be taken for one another, and what the public calls answer. Numbers of refusals are document 01's; an acceptance has 0
+// The four counts that must not be taken for one another, what the public calls answer, and the sizes that the box carries, each named here once. Numbers of refusals are document 01's; an acceptance has 0
 // in number, line and round, a refusal 0 in everything else.
 
 // A player's number in the event, 1 to 9999: what an entry names its opponent by.

@@ -22,7 +22,7 @@ use types::MOST_ACCELERATIONS;
 use types::Place;
 
 // The output's bytes.
-const OUT: usize = 65535;
+const OUT: usize = types::MOST_FILE;
 
 // How much is lent of a table with one cell too many: all of it, or of the short one a cell less than listed.
 fn part(cells: usize, table: u32, c: Case) -> usize
@@ -85,7 +85,7 @@ fn judge(
     colours: &[u8],
     results: &[u8],
     text: &[u8],
-    records: [Acceleration; 32],
+    records: [Acceleration; MOST_ACCELERATIONS],
 ) {
     let mut out = [MARK; OUT];
     let of_out = room(c.room);
