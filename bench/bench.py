@@ -43,7 +43,7 @@ def is_stale():
     """Whether a source is newer than the archive."""
     if not os.path.exists(ARCHIVE):
         return True
-    sources = [os.path.join(ROOT, "crates.txt")] + [os.path.join(folder, name) for folder, _, names in os.walk(os.path.join(ROOT, "crates")) for name in names]
+    sources = [os.path.join(ROOT, "crates.txt")] + [os.path.join(folder, name) for folder, _, names in os.walk(os.path.join(ROOT, "crates")) for name in names if name.endswith((".rt", ".antt"))]
     return any(os.path.getmtime(source) > os.path.getmtime(ARCHIVE) for source in sources)
 
 

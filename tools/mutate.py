@@ -212,6 +212,10 @@ def lawful_conjuncts():
         yield ("Lawful", m.group(0), "  pub %s : Unit {0}\n" % m.group(1))
 
 
+def is_proved(out):
+    return "logic=proved" in out.split("crate law")[-1]
+
+
 def workers(n):
     rooms = Queue()
     for i in range(n):
@@ -224,7 +228,9 @@ def workers(n):
             shutil.copytree(os.path.join(ROOT, "crates", crate), os.path.join(room, "crates", crate))
         lines = open(os.path.join(room, "crates.txt")).read().split("\n")
         open(os.path.join(room, "crates.txt"), "w").write("\n".join(l for l in lines if l.split(":")[0] in keep) + "\n")
-        subprocess.run(["rt", "dev", "law"], cwd=room, capture_output=True)
+        unchanged = subprocess.run(["rt", "dev", "law"], cwd=room, capture_output=True, text=True)
+        if not is_proved(unchanged.stdout + unchanged.stderr):
+            sys.exit("mutate: the unchanged statement is not proved")
         rooms.put(room)
     return rooms
 
@@ -245,7 +251,7 @@ def main():
             open(path, "w").write(text.replace(old, new))
             run = subprocess.run(["rt", "dev", "law"], cwd=room, capture_output=True, text=True)
             out = run.stdout + run.stderr
-            if "logic=proved" in out.split("crate law")[-1]:
+            if is_proved(out):
                 return "SURVIVES", change, ""
             errors = [l for l in out.split("\n") if "error" in l]
             return "refused", change, re.sub(r"^.*crates/law/", "", errors[0])[:70] if errors else "?"
@@ -259,6 +265,7 @@ def main():
                 bad += 1
             print("%-13s %-13s %-50s %s" % (verdict, name, old.replace("\n", " ")[:50], where), flush=True)
     print("%d changes, %d not refused" % (len(changes), bad))
+    sys.exit(1 if bad else 0)
 
 
 main()
