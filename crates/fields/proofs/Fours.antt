@@ -1,4 +1,4 @@
--- A number field of four columns by its bytes: where its digits begin, and what they are worth. Assumes nothing.
+-- A number field of four columns by its bytes: where its digits begin, and the number that they make. Assumes nothing.
 use mathlib.Core.Path.{_≡_, refl, ap, _∙_}
 use mathlib.Core.Bool.{Bool, true, false, cond, _&&_}
 use mathlib.Core.Option.{Option, none, some}
@@ -28,8 +28,8 @@ module _ (field ds : List ℕ) (start : law.numberOf field ≡ law.digitsFrom 0 
   pub not-digits : all isDigit ds ≡ false → _≡_ {A = Said (Option ℕ)} (refuses 7) (orBlank (law.numberOf field))
   not-digits e = rw (start ∙ digits-all 0 ds, e) refl
 
-  pub their-worth : (n : ℕ) → all isDigit ds ≡ true → n ≡ decimalFrom 0 ds → says (some n) ≡ orBlank (law.numberOf field)
-  their-worth n e w = rw (start ∙ digits-all 0 ds, e) (ap (λ (k : ℕ). says (some k)) w)
+  pub their-number : (n : ℕ) → all isDigit ds ≡ true → n ≡ decimalFrom 0 ds → says (some n) ≡ orBlank (law.numberOf field)
+  their-number n e w = rw (start ∙ digits-all 0 ds, e) (ap (λ (k : ℕ). says (some k)) w)
 
 -- ---- where the digits begin
 module _ (a b c d : ℕ) where

@@ -103,7 +103,7 @@ pub fn number_or_blank(line: &[u8], from: usize) -> Number
     }
 }
 
-// The bytes of a field of four columns: whether all are digits, and what those are worth.
+// The bytes of a field of four columns: whether all are digits, and the number that those make.
 fn are_digits(a: u8, b: u8, c: u8, d: u8) -> bool
     ensures { λ r. ⌜ r ≡ all isDigit (a ∷ b ∷ c ∷ d ∷ []) ⌝ }
 {
@@ -119,7 +119,7 @@ fn are_digits(a: u8, b: u8, c: u8, d: u8) -> bool
     is_digit(d)
 }
 
-fn worth(a: u8, b: u8, c: u8, d: u8) -> u32
+fn decimal(a: u8, b: u8, c: u8, d: u8) -> u32
     ensures { λ r. ⌜ r ≡ decimalFrom 0 (a ∷ b ∷ c ∷ d ∷ []) ⌝ }
 {
     digit_value(a) * 1000 + digit_value(b) * 100 + digit_value(c) * 10 + digit_value(d)
@@ -133,25 +133,25 @@ pub fn number_of(a: u8, b: u8, c: u8, d: u8) -> Number
         if !are_digits(a, b, c, d) {
             return Number::Bad;
         }
-        return Number::Value(worth(a, b, c, d));
+        return Number::Value(decimal(a, b, c, d));
     }
     if b != b' ' {
         if !are_digits(b'0', b, c, d) {
             return Number::Bad;
         }
-        return Number::Value(worth(b'0', b, c, d));
+        return Number::Value(decimal(b'0', b, c, d));
     }
     if c != b' ' {
         if !are_digits(b'0', b'0', c, d) {
             return Number::Bad;
         }
-        return Number::Value(worth(b'0', b'0', c, d));
+        return Number::Value(decimal(b'0', b'0', c, d));
     }
     if d != b' ' {
         if !are_digits(b'0', b'0', b'0', d) {
             return Number::Bad;
         }
-        return Number::Value(worth(b'0', b'0', b'0', d));
+        return Number::Value(decimal(b'0', b'0', b'0', d));
     }
     Number::Blank
 }

@@ -2,7 +2,7 @@
 use mathlib.Core.Path.{sym, _∙_}
 use mathlib.Core.List.{[], _∷_}
 use borrow.Author.Tests.{not-true, not-false}
-use Rattle.fields.proofs.Fours.{not-digits, their-worth, from-first, from-second, from-third, from-fourth, nowhere}
+use Rattle.fields.proofs.Fours.{not-digits, their-number, from-first, from-second, from-third, from-fourth, nowhere}
 use Rattle.fields.proofs.number_of.Statement.{statement}
 use Rattle.fields.proofs.number_of.Tie as tie
 
@@ -14,13 +14,13 @@ returns c =
     let a = c .before .before .before .args in
     not-digits (a .a ∷ a .b ∷ a .c ∷ a .d ∷ []) (a .a ∷ a .b ∷ a .c ∷ a .d ∷ []) (from-first (a .a) (a .b) (a .c) (a .d) (c .before .before .if1 .taken)) (sym (c .before .are-digits .ensures) ∙ not-true _ (c .if2 .taken))
 
-worth-requires : tie.Need-worth-requires
-worth-requires c κs = tt
+decimal-requires : tie.Need-decimal-requires
+decimal-requires c κs = tt
 
 returns-2 : tie.Need-returns-2
 returns-2 c =
     let a = c .before .before .before .before .args in
-    their-worth (a .a ∷ a .b ∷ a .c ∷ a .d ∷ []) (a .a ∷ a .b ∷ a .c ∷ a .d ∷ []) (from-first (a .a) (a .b) (a .c) (a .d) (c .before .before .before .if1 .taken)) (c .worth .result) (sym (c .before .before .are-digits .ensures) ∙ not-false _ (c .before .if2 .left)) (c .worth .ensures)
+    their-number (a .a ∷ a .b ∷ a .c ∷ a .d ∷ []) (a .a ∷ a .b ∷ a .c ∷ a .d ∷ []) (from-first (a .a) (a .b) (a .c) (a .d) (c .before .before .before .if1 .taken)) (c .decimal .result) (sym (c .before .before .are-digits .ensures) ∙ not-false _ (c .before .if2 .left)) (c .decimal .ensures)
 
 are-digits-requires-2 : tie.Need-are-digits-requires-2
 are-digits-requires-2 c κs = tt
@@ -30,13 +30,13 @@ returns-3 c =
     let a = c .before .before .before .before .args in
     not-digits (a .a ∷ a .b ∷ a .c ∷ a .d ∷ []) (48 ∷ a .b ∷ a .c ∷ a .d ∷ []) (from-second (a .a) (a .b) (a .c) (a .d) (c .before .before .before .if1 .left) (c .before .before .if3 .taken)) (sym (c .before .are-digits2 .ensures) ∙ not-true _ (c .if4 .taken))
 
-worth-requires-2 : tie.Need-worth-requires-2
-worth-requires-2 c κs = tt
+decimal-requires-2 : tie.Need-decimal-requires-2
+decimal-requires-2 c κs = tt
 
 returns-4 : tie.Need-returns-4
 returns-4 c =
     let a = c .before .before .before .before .before .args in
-    their-worth (a .a ∷ a .b ∷ a .c ∷ a .d ∷ []) (48 ∷ a .b ∷ a .c ∷ a .d ∷ []) (from-second (a .a) (a .b) (a .c) (a .d) (c .before .before .before .before .if1 .left) (c .before .before .before .if3 .taken)) (c .worth2 .result) (sym (c .before .before .are-digits2 .ensures) ∙ not-false _ (c .before .if4 .left)) (c .worth2 .ensures)
+    their-number (a .a ∷ a .b ∷ a .c ∷ a .d ∷ []) (48 ∷ a .b ∷ a .c ∷ a .d ∷ []) (from-second (a .a) (a .b) (a .c) (a .d) (c .before .before .before .before .if1 .left) (c .before .before .before .if3 .taken)) (c .decimal2 .result) (sym (c .before .before .are-digits2 .ensures) ∙ not-false _ (c .before .if4 .left)) (c .decimal2 .ensures)
 
 are-digits-requires-3 : tie.Need-are-digits-requires-3
 are-digits-requires-3 c κs = tt
@@ -46,13 +46,13 @@ returns-5 c =
     let a = c .before .before .before .before .before .args in
     not-digits (a .a ∷ a .b ∷ a .c ∷ a .d ∷ []) (48 ∷ 48 ∷ a .c ∷ a .d ∷ []) (from-third (a .a) (a .b) (a .c) (a .d) (c .before .before .before .before .if1 .left) (c .before .before .before .if3 .left) (c .before .before .if5 .taken)) (sym (c .before .are-digits3 .ensures) ∙ not-true _ (c .if6 .taken))
 
-worth-requires-3 : tie.Need-worth-requires-3
-worth-requires-3 c κs = tt
+decimal-requires-3 : tie.Need-decimal-requires-3
+decimal-requires-3 c κs = tt
 
 returns-6 : tie.Need-returns-6
 returns-6 c =
     let a = c .before .before .before .before .before .before .args in
-    their-worth (a .a ∷ a .b ∷ a .c ∷ a .d ∷ []) (48 ∷ 48 ∷ a .c ∷ a .d ∷ []) (from-third (a .a) (a .b) (a .c) (a .d) (c .before .before .before .before .before .if1 .left) (c .before .before .before .before .if3 .left) (c .before .before .before .if5 .taken)) (c .worth3 .result) (sym (c .before .before .are-digits3 .ensures) ∙ not-false _ (c .before .if6 .left)) (c .worth3 .ensures)
+    their-number (a .a ∷ a .b ∷ a .c ∷ a .d ∷ []) (48 ∷ 48 ∷ a .c ∷ a .d ∷ []) (from-third (a .a) (a .b) (a .c) (a .d) (c .before .before .before .before .before .if1 .left) (c .before .before .before .before .if3 .left) (c .before .before .before .if5 .taken)) (c .decimal3 .result) (sym (c .before .before .are-digits3 .ensures) ∙ not-false _ (c .before .if6 .left)) (c .decimal3 .ensures)
 
 are-digits-requires-4 : tie.Need-are-digits-requires-4
 are-digits-requires-4 c κs = tt
@@ -62,13 +62,13 @@ returns-7 c =
     let a = c .before .before .before .before .before .before .args in
     not-digits (a .a ∷ a .b ∷ a .c ∷ a .d ∷ []) (48 ∷ 48 ∷ 48 ∷ a .d ∷ []) (from-fourth (a .a) (a .b) (a .c) (a .d) (c .before .before .before .before .before .if1 .left) (c .before .before .before .before .if3 .left) (c .before .before .before .if5 .left) (c .before .before .if7 .taken)) (sym (c .before .are-digits4 .ensures) ∙ not-true _ (c .if8 .taken))
 
-worth-requires-4 : tie.Need-worth-requires-4
-worth-requires-4 c κs = tt
+decimal-requires-4 : tie.Need-decimal-requires-4
+decimal-requires-4 c κs = tt
 
 returns-8 : tie.Need-returns-8
 returns-8 c =
     let a = c .before .before .before .before .before .before .before .args in
-    their-worth (a .a ∷ a .b ∷ a .c ∷ a .d ∷ []) (48 ∷ 48 ∷ 48 ∷ a .d ∷ []) (from-fourth (a .a) (a .b) (a .c) (a .d) (c .before .before .before .before .before .before .if1 .left) (c .before .before .before .before .before .if3 .left) (c .before .before .before .before .if5 .left) (c .before .before .before .if7 .taken)) (c .worth4 .result) (sym (c .before .before .are-digits4 .ensures) ∙ not-false _ (c .before .if8 .left)) (c .worth4 .ensures)
+    their-number (a .a ∷ a .b ∷ a .c ∷ a .d ∷ []) (48 ∷ 48 ∷ 48 ∷ a .d ∷ []) (from-fourth (a .a) (a .b) (a .c) (a .d) (c .before .before .before .before .before .before .if1 .left) (c .before .before .before .before .before .if3 .left) (c .before .before .before .before .if5 .left) (c .before .before .before .if7 .taken)) (c .decimal4 .result) (sym (c .before .before .are-digits4 .ensures) ∙ not-false _ (c .before .if8 .left)) (c .decimal4 .ensures)
 
 returns-9 : tie.Need-returns-9
 returns-9 c =
@@ -81,18 +81,18 @@ number-of-spec =
     (tie.spec
     are-digits-requires
     returns
-    worth-requires
+    decimal-requires
     returns-2
     are-digits-requires-2
     returns-3
-    worth-requires-2
+    decimal-requires-2
     returns-4
     are-digits-requires-3
     returns-5
-    worth-requires-3
+    decimal-requires-3
     returns-6
     are-digits-requires-4
     returns-7
-    worth-requires-4
+    decimal-requires-4
     returns-8
     returns-9)
