@@ -12,6 +12,7 @@ HERE = os.path.dirname(os.path.abspath(__file__))
 ROOT = os.path.dirname(HERE)
 WORK = os.path.join(ROOT, "target", "bench")
 DRIVER = os.path.join(WORK, "driver")
+PLUGIN = os.path.join(WORK, "count.so")
 ARCHIVE = os.path.join(ROOT, "target", "staticlib", "libface.a")
 CALLS = ("read", "write", "ask")
 NATIVE = platform.machine() == "x86_64"
@@ -82,22 +83,40 @@ def figures(words, number=float):
     return {tuple(line.split()[:2]): number(line.split()[2]) for line in words.splitlines()}
 
 
-def dumps(arguments):
-    """One profile for each call and maker, in the driver's order."""
+def by_valgrind(arguments):
+    """The functions of each call with their instructions, as callgrind tells them."""
     for old in glob.glob(os.path.join(WORK, "profile*")):
         os.remove(old)
     run(["valgrind", "--tool=callgrind", "--toggle-collect=measured", "--dump-after=measured", f"--callgrind-out-file={WORK}/profile", DRIVER, "count", *arguments],
         env={**os.environ, **BASELINE})
-    return sorted(glob.glob(os.path.join(WORK, "profile.*")), key=lambda name: int(name.rsplit(".", 1)[1]))
+    made = []
+    for dump in sorted(glob.glob(os.path.join(WORK, "profile.*")), key=lambda name: int(name.rsplit(".", 1)[1])):
+        told = run(["callgrind_annotate", "--threshold=100", "--auto=no", dump]).splitlines()
+        pairs = [line.split("%)", 1) for line in told if "%)" in line and "PROGRAM TOTALS" not in line]
+        made.append([(int(front.split()[0].replace(",", "")), function.strip()) for front, function in pairs])
+    return made
 
 
-def counted(dump):
-    with open(dump) as lines:
-        return next(int(line.split()[1]) for line in lines if line.startswith(("summary:", "totals:")))
+def by_emulator(arguments):
+    """The same, as our plugin tells it to an emulator."""
+    told = os.path.join(WORK, "profile.txt")
+    run(["cc", "-O2", "-fPIC", "-shared", "-o", PLUGIN, os.path.join(HERE, "count.c")])
+    run(["qemu-x86_64", "-cpu", "qemu64", "-plugin", f"{PLUGIN},out={told}", DRIVER, "count", *arguments])
+    with open(told) as file:
+        blocks = [block.splitlines() for block in file.read().split("\n\n") if block]
+    return [sorted(((int(line.split(" ", 1)[0]), line.split(" ", 1)[1]) for line in block), reverse=True) for block in blocks]
+
+
+def counter():
+    """How instructions are counted here, or None."""
+    if NATIVE and shutil.which("valgrind"):
+        return by_valgrind
+    return by_emulator if shutil.which("qemu-x86_64") and shutil.which("cc") else None
 
 
 def counts(arguments):
-    made = [counted(dump) for dump in dumps(arguments)]
+    """Instructions by call and maker."""
+    made = [sum(count for count, _ in functions) for functions in counter()(arguments)]
     return {(call, maker): [made[2 * i + j]] for i, call in enumerate(CALLS[:len(made) // 2]) for j, maker in enumerate(("ours", "plain"))}
 
 
@@ -127,15 +146,11 @@ def ratio(measured, call):
     return f"{statistics.median(ours / plain for ours, plain in zip(measured[call, 'ours'], measured[call, 'plain'])):.2f}"
 
 
-def can_count():
-    return NATIVE and shutil.which("valgrind") is not None
-
-
 def ratios(processes):
     short, long = [], []
     for i, (name, data, lent) in enumerate(files.measured(), 1):
         arguments = kept_pair(f"row{i}", data, lent)
-        count = counts(arguments) if can_count() else {}
+        count = counts(arguments) if counter() else {}
         time = times(arguments, processes)
         short.append([f"{i}. {name}"] + [cell for call in CALLS for cell in (ratio(count, call), ratio(time, call))])
         for call in CALLS:
@@ -148,8 +163,8 @@ def ratios(processes):
 
 
 def linear():
-    if not can_count():
-        print("No instructions are counted here: that needs valgrind on an x86-64 host.\n")
+    if not counter():
+        print("No instructions are counted here: bench/README.md says what that needs.\n")
         return
     for what, series in files.growing():
         rows, before = [], None
@@ -176,14 +191,14 @@ def stack():
 
 
 def profile(call, row):
-    if not can_count():
-        fail("a profile needs valgrind on an x86-64 host")
+    if not counter():
+        fail("no instructions are counted here: bench/README.md says what that needs")
     _, data, lent = files.measured()[int(row) - 1]
-    made = dumps(kept_pair(f"row{row}", data, lent))
+    made = counter()(kept_pair(f"row{row}", data, lent))
     for j, maker in enumerate(("ours", "plain")):
-        print(f"{call}, {maker}")
-        out = run(["callgrind_annotate", "--threshold=100", "--auto=no", made[2 * CALLS.index(call) + j]])
-        print("\n".join(line for line in out.splitlines() if "%)" in line), "\n")
+        functions = made[2 * CALLS.index(call) + j]
+        print(f"{call}, {maker}: {sum(count for count, _ in functions):,}")
+        print("".join(f"{count:12,}  {function}\n" for count, function in functions))
 
 
 def main(words):

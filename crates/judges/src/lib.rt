@@ -2,8 +2,10 @@
 // whole file, over the cells.
 ghost use mathlib.Core.Path.{_≡_};
 ghost use mathlib.Core.Bool.{true};
+ghost use mathlib.Core.List.{List};
 ghost use Prim.Native.Nat.{_≤_};
 ghost use lib.ListN.{length};
+ghost use Rattle.types.specs.declared.Acceleration as lent;
 ghost use Rattle.law.specs.Sizes.{mostPlayers, mostRounds};
 ghost use Rattle.law.specs.Tables.{entryCells, lineCells};
 ghost use Rattle.join.specs.Store.{Nine};
@@ -16,12 +18,14 @@ ghost use Rattle.steps.specs.Counts.{asCount, Small};
 ghost use Rattle.judges.specs.Closing.{isComplete, pastIn, dash, zed, ClosedBy};
 use checks::START_CELLS;
 use steps::Counts;
+use types::Acceleration;
 use types::LineNumber;
+use types::MOST_ACCELERATIONS;
 use verdicts::Verdict;
 
 // Whether there are a 012 and a player (else 10).
 fn is_complete(c: Counts) -> bool
-    ensures { λ r. ⌜ r ≡ isComplete (asCount c) ⌝ }
+    ensures { λ r. ⌜ ((rs : List lent.Acceleration) → r ≡ isComplete (asCount c rs)) ⌝ }
 {
     let seen = c.seen;
     seen[0] & (0 < c.players)
@@ -30,6 +34,7 @@ fn is_complete(c: Counts) -> bool
 // The first refusal of the whole file, after the closing pass. past: what 11 found before it.
 fn judge(
     c: Counts,
+    records: [Acceleration; MOST_ACCELERATIONS],
     rounds: u32,
     past: Verdict,
     index: &[u8; START_CELLS],
@@ -42,7 +47,7 @@ fn judge(
 ) -> Verdict
     requires { ⌜ laws.Long (now starts) (now opponents) (now colours) (now results) × Indexed (now starts) (c .players) (now index) ⌝ }
     requires { ⌜ (mostPlayers ≤ length (now points)) × (lineCells ≤ length (now lines)) × (rounds ≤ mostRounds) × (areSmall (c .values) ≡ true) × Small c ⌝ }
-    ensures { λ r. ⌜ ((x y : Nine) → y .starts ≡ now (starts .entry) → y .points ≡ now (points .entry) → y .opponents ≡ now (opponents .entry) → y .colours ≡ now (colours .entry) → y .results ≡ now (results .entry) → y .lines ≡ now (lines .entry) → x .lines ≡ now (lines .entry) → past ≡ asVerdict (pastIn (asCount c) rounds x) → r ≡ asVerdict (verdict (asCount c) rounds x y)) ⌝ }
+    ensures { λ r. ⌜ ((x y : Nine) → y .starts ≡ now (starts .entry) → y .points ≡ now (points .entry) → y .opponents ≡ now (opponents .entry) → y .colours ≡ now (colours .entry) → y .results ≡ now (results .entry) → y .lines ≡ now (lines .entry) → x .lines ≡ now (lines .entry) → past ≡ asVerdict (pastIn (asCount c records) rounds x) → r ≡ asVerdict (verdict (asCount c records) rounds x y)) ⌝ }
 {
     if !is_complete(c) {
         return Verdict {
@@ -55,7 +60,6 @@ fn judge(
         return past;
     }
     let n = c.players;
-    let records = c.records;
     let shared = verdicts::sharing(records, c.accelerations, lines);
     if shared.number != 0 {
         return shared;
@@ -80,7 +84,7 @@ fn judge(
 // The number of rounds: what 142 says, or the highest round with an entry.
 fn rounds_of(c: Counts, colours: &[u8]) -> u32
     requires { ⌜ (c .players ≤ mostPlayers) × (entryCells ≤ length (now colours)) ⌝ }
-    ensures { λ r. ⌜ r ≡ roundsFound (asCount c) (now (colours .entry)) ⌝ }
+    ensures { λ r. ⌜ ((rs : List lent.Acceleration) → r ≡ roundsFound (asCount c rs) (now (colours .entry))) ⌝ }
 {
     if c.stated {
         return c.rounds;
@@ -97,6 +101,7 @@ pub struct Finished {
 // After the last line: the number of rounds, 11, the closing pass, and the other checks.
 pub fn finish(
     c: Counts,
+    records: [Acceleration; MOST_ACCELERATIONS],
     index: &[u8; START_CELLS],
     starts: &[u32],
     points: &[u32],
@@ -106,8 +111,8 @@ pub fn finish(
     lines: &[u32],
 ) -> Finished
     requires { ⌜ laws.Long (now starts) (now opponents) (now colours) (now results) × Indexed (now starts) (c .players) (now index) ⌝ }
-    requires { ⌜ (mostPlayers ≤ length (now points)) × (lineCells ≤ length (now lines)) × (roundsFound (asCount c) (now colours) ≤ mostRounds) × (areSmall (c .values) ≡ true) × Small c ⌝ }
-    ensures { λ r. ⌜ (r .rounds ≡ roundsFound (asCount c) (now (colours .entry))) × ClosedBy dash (c .players) (r .rounds) (now (colours .entry)) (now (colours .exit)) × ClosedBy zed (c .players) (r .rounds) (now (results .entry)) (now (results .exit)) × ((x y : Nine) → x .colours ≡ now (colours .entry) → x .lines ≡ now (lines .entry) → y .starts ≡ now (starts .entry) → y .points ≡ now (points .entry) → y .opponents ≡ now (opponents .entry) → y .colours ≡ now (colours .exit) → y .results ≡ now (results .exit) → y .lines ≡ now (lines .entry) → r .verdict ≡ asVerdict (verdict (asCount c) (r .rounds) x y)) ⌝ }
+    requires { ⌜ (mostPlayers ≤ length (now points)) × (lineCells ≤ length (now lines)) × (roundsFound (asCount c records) (now colours) ≤ mostRounds) × (areSmall (c .values) ≡ true) × Small c ⌝ }
+    ensures { λ r. ⌜ (r .rounds ≡ roundsFound (asCount c records) (now (colours .entry))) × ClosedBy dash (c .players) (r .rounds) (now (colours .entry)) (now (colours .exit)) × ClosedBy zed (c .players) (r .rounds) (now (results .entry)) (now (results .exit)) × ((x y : Nine) → x .colours ≡ now (colours .entry) → x .lines ≡ now (lines .entry) → y .starts ≡ now (starts .entry) → y .points ≡ now (points .entry) → y .opponents ≡ now (opponents .entry) → y .colours ≡ now (colours .exit) → y .results ≡ now (results .exit) → y .lines ≡ now (lines .entry) → r .verdict ≡ asVerdict (verdict (asCount c records) (r .rounds) x y)) ⌝ }
 {
     let rounds = rounds_of(c, colours);
     let n = c.players;
@@ -116,6 +121,7 @@ pub fn finish(
     checks::close(results, n, rounds, b'Z');
     let verdict = judge(
         c,
+        records,
         rounds,
         past,
         index,

@@ -11,6 +11,7 @@ use lib.ListN.{length, getD, replicate, length-map}
 use Rattle.kit.specs.Lists.{onlyOr, flat}
 use Rattle.kit.specs.First.{AllOf}
 use Rattle.kit.specs.Table.{Holds}
+use Rattle.types.specs.declared.Acceleration.{Acceleration}
 use Rattle.types.specs.declared.Answer.{Answer}
 use Rattle.law.specs.Sizes.{mostFile, mostRounds, mostAccelerations}
 use Rattle.law.specs.Lines.{Line}
@@ -36,6 +37,8 @@ use Rattle.checks.specs.Results.{areSmall}
 use Rattle.checks.proofs.Indexes.{index-zeros}
 use Rattle.verdicts.specs.declared.Verdict.{Verdict}
 use Rattle.verdicts.specs.Verdict.{asVerdict}
+use Rattle.record_cells.specs.Cells.{recordCells, recordsOf}
+use Rattle.record_cells.proofs.Five.{no-records}
 use Rattle.steps.specs.declared.Counts.{Counts}
 use Rattle.steps.specs.Counts as counts
 use Rattle.steps.specs.Counts.{asCount}
@@ -45,7 +48,7 @@ use Rattle.judges.specs.declared.Finished.{Finished}
 use Rattle.judges.specs.Closing.{dash, zed, ClosedBy}
 use Rattle.judges.proofs.Judging.{verdict-numbered}
 use Rattle.lines_read.specs.declared.CoreAnswer.{CoreAnswer}
-use Rattle.lines_read.specs.Core.{refusedCore, acceptedCore, HoldNine, Within, WithinNine, LinesAccepted, LinesRefused, LinesRead}
+use Rattle.lines_read.specs.Core.{noRecords, refusedCore, acceptedCore, HoldNine, Within, WithinNine, LinesAccepted, LinesRefused, LinesRead}
 
 -- by the answer's name
 pub read-as : {file : List ℕ} {b x : Nine} {r u : CoreAnswer} → r ≡ u → LinesRead file b u x → LinesRead file b r x
@@ -94,32 +97,37 @@ only-small [] h = tt
 only-small (g ∷ given) h = h .0
 
 -- ---- before the first line
-pub none-indexed : (starts : List ℕ) (c : Counts) → asCount c ≡ noCount → Indexed starts (c .players) (replicate 10000 0)
+pub none-indexed : (starts : List ℕ) (c : Counts) → asCount c noRecords ≡ noCount → Indexed starts (c .players) (replicate 10000 0)
 none-indexed starts c e =
     let n : c .players ≡ 0 = ap (λ (d : Count). d .players) e in
     subst (λ (m : ℕ). Indexed starts m (replicate 10000 0)) (sym n)
     (record { few = omega arith; says = index-zeros starts 10000 (omega arith); low = λ i l. absurd (omega arith) })
 
-pub none-small : (c : Counts) → asCount c ≡ noCount → counts.Small c
+pub none-small : (c : Counts) → asCount c noRecords ≡ noCount → counts.Small c
 none-small c e =
     record {
       accelerations = let n : c .accelerations ≡ 0 = ap (λ (d : Count). d .accelerations) e in omega arith;
       text = let n : c .text ≡ 0 = ap (λ (d : Count). d .text) e in omega arith;
     }
 
+pub begun : (r : Ran) (rs : List Acceleration) (x y : Nine) (file : List ℕ) (c : Counts) → asCount c noRecords ≡ noCount
+    → ran r rs y ≡ runAll stepLine (cut false file) 0 (state 0 (asCount c (recordsOf (replicate recordCells 0))) x) → ran r rs y ≡ runAll stepLine (cut false file) 0 (state 0 noCount x)
+begun r rs x y file c e did =
+    did ∙ ap (λ (rs : List Acceleration). runAll stepLine (cut false file) 0 (state 0 (asCount c rs) x)) no-records ∙ ap (λ (k : Count). runAll stepLine (cut false file) 0 (state 0 k x)) e
+
 -- ---- the run over the lines
-module _ (x : Nine) (long : Long x) (z : Zeroed x x) (file : List ℕ) (small : length file ≤ mostFile) (r : Ran) (y : Nine)
-    (did : ran r y ≡ runAll stepLine (cut false file) 0 (state 0 noCount x)) where
+module _ (x : Nine) (long : Long x) (z : Zeroed x x) (file : List ℕ) (small : length file ≤ mostFile) (r : Ran) (rs : List Acceleration) (y : Nine)
+    (did : ran r rs y ≡ runAll stepLine (cut false file) 0 (state 0 noCount x)) where
   abbrev ls : List Line
   ls = cut false file
 
   -- a line is refused
   module _ (q : r .fault ≡ 0 → ⊥) where
     abbrev s-before : State
-    s-before = state (r .line .0 - 1) (asCount (r .counts)) y
+    s-before = state (r .line .0 - 1) (asCount (r .counts) rs) y
 
     stopped-run : runAll stepLine ls 0 (state 0 noCount x) ≡ stop (r .line .0, r .fault) s-before
-    stopped-run = sym did ∙ ap (λ (v : Bool). cond v (on (state (r .line .0) (asCount (r .counts)) y)) (stop (r .line .0, r .fault) s-before)) (ne-eqb (r .fault) 0 q)
+    stopped-run = sym did ∙ ap (λ (v : Bool). cond v (on (state (r .line .0) (asCount (r .counts) rs) y)) (stop (r .line .0, r .fault) s-before)) (ne-eqb (r .fault) 0 q)
 
     pub line-refused : LinesRead file x (refusedCore (refusal (r .fault) (r .line .0) 0) mostAccelerations) y
     line-refused =
@@ -136,7 +144,7 @@ module _ (x : Nine) (long : Long x) (z : Zeroed x x) (file : List ℕ) (small : 
   -- none is
   module _ (q : r .fault ≡ 0) where
     abbrev c : Count
-    c = asCount (r .counts)
+    c = asCount (r .counts) rs
 
     abbrev s : State
     s = state (r .line .0) c y

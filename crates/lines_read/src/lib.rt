@@ -9,8 +9,9 @@ ghost use Rattle.join.specs.Store.{noCount};
 ghost use Rattle.join.specs.Kept.{Long, Zeroed};
 ghost use Rattle.tables.specs.Lent.{lent, before, after};
 ghost use Rattle.steps.specs.Counts.{asCount, Small};
-ghost use Rattle.lines_read.specs.Core.{refusedCore, acceptedCore, LinesRead};
+ghost use Rattle.lines_read.specs.Core.{noRecords, refusedCore, acceptedCore, LinesRead};
 use checks::START_CELLS;
+use record_cells::RECORD_CELLS;
 use scorings::Scoring;
 use steps::Counts;
 use steps::TEXT_CODES;
@@ -30,7 +31,7 @@ pub struct CoreAnswer {
 
 // Before the first line.
 fn no_counts() -> Counts
-    ensures { λ r. ⌜ asCount r ≡ noCount ⌝ }
+    ensures { λ r. ⌜ asCount r noRecords ≡ noCount ⌝ }
 {
     let defaults = Scoring::DEFAULTS;
     let values = defaults.values;
@@ -38,7 +39,6 @@ fn no_counts() -> Counts
         players: 0,
         accelerations: 0,
         text: 0,
-        records: [NO_ACCELERATION; MOST_ACCELERATIONS],
         seen: [false; TEXT_CODES],
         stated: false,
         rounds: 0,
@@ -70,12 +70,15 @@ pub fn refused(number: u32, line: LineNumber, round: u32, fill: usize) -> CoreAn
 }
 
 // The answer of an acceptance.
-fn accepted(c: Counts, rounds: u32) -> CoreAnswer
+fn accepted(
+    c: Counts,
+    records: [Acceleration; MOST_ACCELERATIONS],
+    rounds: u32,
+) -> CoreAnswer
     requires { ⌜ (c .players ≤ mostPlayers) × Small c ⌝ }
-    ensures { λ r. ⌜ r ≡ acceptedCore (asCount c) rounds ⌝ }
+    ensures { λ r. ⌜ r ≡ acceptedCore (asCount c records) rounds ⌝ }
 {
     let values = c.values;
-    let records = c.records;
     CoreAnswer {
         answer: Answer {
             number: 0,
@@ -112,11 +115,13 @@ pub fn read_lines(
     ensures { λ r. ⌜ LinesRead (now (file .entry)) (before starts points ranks kept opponents colours results text lines) r (after starts points ranks kept opponents colours results text lines) ⌝ }
 {
     let mut index = [0u8; START_CELLS];
+    let mut cells = [0u32; RECORD_CELLS];
     let none = no_counts();
     let ran = runs::run(
         file,
         none,
         &mut index,
+        &mut cells,
         starts,
         points,
         ranks,
@@ -132,8 +137,10 @@ pub fn read_lines(
         return refused(ran.fault, line, 0, MOST_ACCELERATIONS);
     }
     let c = ran.counts;
+    let records = record_cells::all(&cells);
     let done = judges::finish(
         c,
+        records,
         &index,
         starts,
         points,
@@ -147,5 +154,5 @@ pub fn read_lines(
         let line = verdict.line;
         return refused(verdict.number, line, verdict.round, MOST_ACCELERATIONS);
     }
-    accepted(c, done.rounds)
+    accepted(c, records, done.rounds)
 }

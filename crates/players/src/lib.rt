@@ -5,6 +5,7 @@ ghost use mathlib.Core.Bool.{false};
 ghost use mathlib.Core.List.{List};
 ghost use Prim.Native.Nat.{ℕ, _+_, _<_, _≤_};
 ghost use lib.ListN.{getD};
+ghost use Rattle.types.specs.declared.Acceleration as lent;
 ghost use Rattle.law.specs.Sizes.{mostPlayers, mostRounds};
 ghost use Rattle.law.specs.Players.{PlayerLine};
 ghost use Rattle.law.proofs.RecordsRead.{playerOf};
@@ -112,7 +113,7 @@ fn store_player(
 // One player more.
 fn with_player(c: Counts) -> Counts
     requires { ⌜ c .players ≤ mostPlayers ⌝ }
-    ensures { λ r. ⌜ asCount r ≡ countPlayer (asCount c) ⌝ }
+    ensures { λ r. ⌜ ((rs : List lent.Acceleration) → asCount r rs ≡ countPlayer (asCount c rs)) ⌝ }
 {
     let mut counts = c;
     counts.players = c.players + 1;
@@ -136,7 +137,7 @@ pub fn step_player(
 ) -> Stepped
     requires { ⌜ LongEight (now starts) (now points) (now ranks) (now kept) (now opponents) (now colours) (now results) (now lines) ⌝ }
     requires { ⌜ Indexed (now starts) (c .players) (now index) ⌝ }
-    ensures { λ r. ⌜ ((ln : ℕ) (text : List ℕ) → number .0 ≡ ln + 1 → went ln r (nine (now (starts .exit)) (now (points .exit)) (now (ranks .exit)) (now (kept .exit)) (now (opponents .exit)) (now (colours .exit)) (now (results .exit)) text (now (lines .exit))) ≡ stepPlayer (playerOf (now (line .entry))) (state ln (asCount c) (nine (now (starts .entry)) (now (points .entry)) (now (ranks .entry)) (now (kept .entry)) (now (opponents .entry)) (now (colours .entry)) (now (results .entry)) text (now (lines .entry))))) × Indexed (now (starts .exit)) (r .counts .players) (now (index .exit)) ⌝ }
+    ensures { λ r. ⌜ ((ln : ℕ) (rs : List lent.Acceleration) (text : List ℕ) → number .0 ≡ ln + 1 → went ln r rs (nine (now (starts .exit)) (now (points .exit)) (now (ranks .exit)) (now (kept .exit)) (now (opponents .exit)) (now (colours .exit)) (now (results .exit)) text (now (lines .exit))) ≡ stepPlayer (playerOf (now (line .entry))) (state ln (asCount c rs) (nine (now (starts .entry)) (now (points .entry)) (now (ranks .entry)) (now (kept .entry)) (now (opponents .entry)) (now (colours .entry)) (now (results .entry)) text (now (lines .entry))))) × Indexed (now (starts .exit)) (r .counts .players) (now (index .exit)) ⌝ }
 {
     let row = rows::player_of(line);
     if !row.good {

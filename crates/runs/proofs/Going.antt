@@ -17,6 +17,7 @@ use Rattle.join.specs.Store.{Nine, State, state, stepLine}
 use Rattle.join.specs.Kept.{Long}
 use Rattle.lines.specs.Step.{byteFault, FaultAt, WholeAt}
 use Rattle.checks.specs.Laws.{Indexed}
+use Rattle.record_cells.specs.Cells.{recordCells, recordsOf}
 use Rattle.steps.specs.declared.Counts.{Counts}
 use Rattle.steps.specs.declared.Stepped.{Stepped}
 use Rattle.steps.specs.Counts.{asCount, went, Small}
@@ -50,17 +51,18 @@ long-as a l =
     }
 
 -- at byte at, after ln lines
-pub record Going (file : List ℕ) (b : Nine) (nothing : Counts) (t : Nine) (index : List ℕ) (c : Counts) (at ln : ℕ) : Type 0 where
+pub record Going (file : List ℕ) (b : Nine) (nothing : Counts) (first : List ℕ) (t : Nine) (index : List ℕ) (c : Counts) (cells : List ℕ) (at ln : ℕ) : Type 0 where
   pub within : at ≤ length file
   pub small : ln ≤ at
-  pub rest : runAll stepLine (cut false (drop at file)) ln (state ln (asCount c) t) ≡ runAll stepLine (cut false file) 0 (state 0 (asCount nothing) b)
+  pub rest : runAll stepLine (cut false (drop at file)) ln (state ln (asCount c (recordsOf cells)) t) ≡ runAll stepLine (cut false file) 0 (state 0 (asCount nothing (recordsOf first)) b)
   pub alike : Alike b t
   pub indexed : Indexed (t .starts) (c .players) index
   pub room : Small c
+  pub cells-long : length cells ≡ recordCells
 
-pub going-none : (file : List ℕ) (b : Nine) (nothing : Counts) (index : List ℕ) (at : ℕ) → at ≡ 0 → Indexed (b .starts) (nothing .players) index → Small nothing
-    → Going file b nothing b index nothing at 0
-going-none file b nothing index at e i r =
+pub going-none : (file : List ℕ) (b : Nine) (nothing : Counts) (first index : List ℕ) (at : ℕ) → at ≡ 0 → Indexed (b .starts) (nothing .players) index → Small nothing → length first ≡ recordCells
+    → Going file b nothing first b index nothing first at 0
+going-none file b nothing first index at e i r l =
     record {
       within = omega (arith, e);
       small = omega arith;
@@ -68,13 +70,14 @@ going-none file b nothing index at e i r =
       alike = record { starts = refl; points = refl; ranks = refl; kept = refl; opponents = refl; colours = refl; results = refl; text = refl; lines = refl };
       indexed = i;
       room = r;
+      cells-long = l;
     }
 
-module _ {file : List ℕ} {b : Nine} {nothing : Counts} {t : Nine} {index : List ℕ} {c : Counts} {at ln : ℕ} (g : Going file b nothing t index c at ln) where
+module _ {file : List ℕ} {b : Nine} {nothing : Counts} {first : List ℕ} {t : Nine} {index : List ℕ} {c : Counts} {cells : List ℕ} {at ln : ℕ} (g : Going file b nothing first t index c cells at ln) where
   abbrev whole : Way State (ℕ × ℕ)
-  whole = runAll stepLine (cut false file) 0 (state 0 (asCount nothing) b)
+  whole = runAll stepLine (cut false file) 0 (state 0 (asCount nothing (recordsOf first)) b)
 
-  pub going-done : cut false (drop at file) ≡ [] → ran (record { fault = 0; line = record { 0 = ln }; counts = c }) t ≡ whole
+  pub going-done : cut false (drop at file) ≡ [] → ran (record { fault = 0; line = record { 0 = ln }; counts = c }) (recordsOf cells) t ≡ whole
   unfolding runAll
   going-done e = rw e at (g .rest)
 
@@ -82,43 +85,43 @@ module _ {file : List ℕ} {b : Nine} {nothing : Counts} {t : Nine} {index : Lis
   back = omega arith
 
   stopped : (l : Line) (others : List Line) (a b : Bool) → all allowed (l .text) ≡ a → isEnded (l .end) ≡ b → (k : ℕ) → cond a (cond b 0 4) 3 ≡ k → (k ≡ 0 → ⊥)
-      → ran (record { fault = k; line = record { 0 = ln + 1 }; counts = c }) t ≡ runAll stepLine (l ∷ others) ln (state ln (asCount c) t)
+      → ran (record { fault = k; line = record { 0 = ln + 1 }; counts = c }) (recordsOf cells) t ≡ runAll stepLine (l ∷ others) ln (state ln (asCount c (recordsOf cells)) t)
   unfolding runAll stepLine
   stopped l others true true p q k e n = absurd (n (sym e))
   stopped l others true false p q k e n = rw (← e, p, q, back) refl
   stopped l others false b p q k e n = rw (← e, p, back) refl
 
-  pub going-fault : {k : ℕ} → FaultAt file at k → (k ≡ 0 → ⊥) → ran (record { fault = k; line = record { 0 = ln + 1 }; counts = c }) t ≡ whole
-  going-fault {k} m n = stopped (m .line) (m .others) (all allowed (m .line .text)) (isEnded (m .line .end)) refl refl k (m .fault) n ∙ ap (λ (l : List Line). runAll stepLine l ln (state ln (asCount c) t)) (sym (m .lines)) ∙ g .rest
+  pub going-fault : {k : ℕ} → FaultAt file at k → (k ≡ 0 → ⊥) → ran (record { fault = k; line = record { 0 = ln + 1 }; counts = c }) (recordsOf cells) t ≡ whole
+  going-fault {k} m n = stopped (m .line) (m .others) (all allowed (m .line .text)) (isEnded (m .line .end)) refl refl k (m .fault) n ∙ ap (λ (l : List Line). runAll stepLine l ln (state ln (asCount c (recordsOf cells)) t)) (sym (m .lines)) ∙ g .rest
 
   -- a line with its terminator, and what was done with it
-  module _ {from to after : ℕ} (m : WholeAt file at from to after) (r : Stepped) (x : Nine)
-      (did : (n : ℕ) (end : End) → ln + 1 ≡ n + 1 → went n r x ≡ stepLine (lineOf (take (to - from) (drop from file)) end) (state n (asCount c) t)) where
+  module _ {from to after : ℕ} (m : WholeAt file at from to after) (r : Stepped) (rs : List ℕ) (x : Nine)
+      (did : (n : ℕ) (end : End) → ln + 1 ≡ n + 1 → went n r (recordsOf rs) x ≡ stepLine (lineOf (take (to - from) (drop from file)) end) (state n (asCount c (recordsOf cells)) t)) where
     line-is : (v : Bool) → record { text = take (to - from) (drop from file); end = endFor v } ≡ lineOf (take (to - from) (drop from file)) (cond v crlf cr)
     line-is true = refl
     line-is false = refl
 
-    one : next (went ln r x) ln (runAll stepLine (cut false (drop after file)) (ln + 1)) ≡ whole
+    one : next (went ln r (recordsOf rs) x) ln (runAll stepLine (cut false (drop after file)) (ln + 1)) ≡ whole
     unfolding runAll
     one =
         let v = startsWithLF (drop (suc to) file) in
         ap (λ (w : Way State ℕ). next w ln (runAll stepLine (cut false (drop after file)) (ln + 1))) (did ln (cond v crlf cr) refl)
-        ∙ ap (λ (l : Line). runAll stepLine (l ∷ cut false (drop after file)) ln (state ln (asCount c) t)) (sym (line-is v))
-        ∙ ap (λ (l : List Line). runAll stepLine l ln (state ln (asCount c) t)) (sym (m .lines))
+        ∙ ap (λ (l : Line). runAll stepLine (l ∷ cut false (drop after file)) ln (state ln (asCount c (recordsOf cells)) t)) (sym (line-is v))
+        ∙ ap (λ (l : List Line). runAll stepLine l ln (state ln (asCount c (recordsOf cells)) t)) (sym (m .lines))
         ∙ g .rest
 
-    pub going-stop : (r .fault ≡ 0 → ⊥) → ran (record { fault = r .fault; line = record { 0 = ln + 1 }; counts = r .counts }) x ≡ whole
+    pub going-stop : (r .fault ≡ 0 → ⊥) → ran (record { fault = r .fault; line = record { 0 = ln + 1 }; counts = r .counts }) (recordsOf rs) x ≡ whole
     going-stop e = go (eqb (r .fault) 0) (ne-eqb (r .fault) 0 e) one
       where
         go : (v : Bool) → v ≡ false
-            → next (cond v (on (state (ln + 1) (asCount (r .counts)) x)) (stop (r .fault) (state ln (asCount (r .counts)) x))) ln (runAll stepLine (cut false (drop after file)) (ln + 1)) ≡ whole
-            → cond v (on (state (ln + 1) (asCount (r .counts)) x)) (stop (ln + 1, r .fault) (state (ln + 1 - 1) (asCount (r .counts)) x)) ≡ whole
+            → next (cond v (on (state (ln + 1) (asCount (r .counts) (recordsOf rs)) x)) (stop (r .fault) (state ln (asCount (r .counts) (recordsOf rs)) x))) ln (runAll stepLine (cut false (drop after file)) (ln + 1)) ≡ whole
+            → cond v (on (state (ln + 1) (asCount (r .counts) (recordsOf rs)) x)) (stop (ln + 1, r .fault) (state (ln + 1 - 1) (asCount (r .counts) (recordsOf rs)) x)) ≡ whole
         go false p q = rw back q
         go true p q = clash (sym p)
 
-    pub going-next : r .fault ≡ 0 → Alike t x → {index′ : List ℕ} → Indexed (x .starts) (r .counts .players) index′ → Small (r .counts)
-        → Going file b nothing x index′ (r .counts) after (ln + 1)
-    going-next e a i s =
+    pub going-next : r .fault ≡ 0 → Alike t x → {index′ : List ℕ} → Indexed (x .starts) (r .counts .players) index′ → Small (r .counts) → length rs ≡ recordCells
+        → Going file b nothing first x index′ (r .counts) rs after (ln + 1)
+    going-next e a i s l =
         record {
           within = m .within;
           small = let p = g .small in let q = m .forward in let z = m .past in omega arith;
@@ -137,19 +140,20 @@ module _ {file : List ℕ} {b : Nine} {nothing : Counts} {t : Nine} {index : Lis
               };
           indexed = i;
           room = s;
+          cells-long = l;
         }
       where
         go : (v : Bool) → v ≡ true
-            → next (cond v (on (state (ln + 1) (asCount (r .counts)) x)) (stop (r .fault) (state ln (asCount (r .counts)) x))) ln (runAll stepLine (cut false (drop after file)) (ln + 1)) ≡ whole
-            → runAll stepLine (cut false (drop after file)) (ln + 1) (state (ln + 1) (asCount (r .counts)) x) ≡ whole
+            → next (cond v (on (state (ln + 1) (asCount (r .counts) (recordsOf rs)) x)) (stop (r .fault) (state ln (asCount (r .counts) (recordsOf rs)) x))) ln (runAll stepLine (cut false (drop after file)) (ln + 1)) ≡ whole
+            → runAll stepLine (cut false (drop after file)) (ln + 1) (state (ln + 1) (asCount (r .counts) (recordsOf rs)) x) ≡ whole
         go true p q = q
         go false p q = clash p
 
   -- a line that is passed over leaves all as it was
-  pub going-skip : {from to after : ℕ} → WholeAt file at from to after → Skipped (take (to - from) (drop from file)) → Going file b nothing t index c after (ln + 1)
+  pub going-skip : {from to after : ℕ} → WholeAt file at from to after → Skipped (take (to - from) (drop from file)) → Going file b nothing first t index c cells after (ln + 1)
   going-skip {from} {to} m s =
-      going-next m (record { fault = 0; counts = c }) t did refl
-      (record { starts = refl; points = refl; ranks = refl; kept = refl; opponents = refl; colours = refl; results = refl; text = refl; lines = refl }) (g .indexed) (g .room)
+      going-next m (record { fault = 0; counts = c }) cells t did refl
+      (record { starts = refl; points = refl; ranks = refl; kept = refl; opponents = refl; colours = refl; results = refl; text = refl; lines = refl }) (g .indexed) (g .room) (g .cells-long)
     where
-      did : (n : ℕ) (end : End) → ln + 1 ≡ n + 1 → went n (record { fault = 0; counts = c }) t ≡ stepLine (lineOf (take (to - from) (drop from file)) end) (state n (asCount c) t)
-      did n end _ = passed-on (take (to - from) (drop from file)) end n (asCount c) t (m .clean) s
+      did : (n : ℕ) (end : End) → ln + 1 ≡ n + 1 → went n (record { fault = 0; counts = c }) (recordsOf cells) t ≡ stepLine (lineOf (take (to - from) (drop from file)) end) (state n (asCount c (recordsOf cells)) t)
+      did n end _ = passed-on (take (to - from) (drop from file)) end n (asCount c (recordsOf cells)) t (m .clean) s

@@ -91,18 +91,18 @@ module _ (s : State) (h : InRoom (s .count)) where
       (λ _. or-refused (not (isEnded (l .end))) 4 s _ h (λ _. or-refused (ltb mostLine (length (rowOf (l .text)))) 5 s _ h (λ _. in-row (kindOf (rowOf (l .text))) (rowOf (l .text)))))
 
 -- the counts after a line
-small-after : (ln : ℕ) (c : Count) (t : Nine) (l : Line) → InRoom c → (r : Stepped) (x : Nine) → went ln r x ≡ stepLine l (state ln c t) → Small (r .counts)
-small-after ln c t l h r x e = go (eqb (r .fault) 0) (subst WayInRoom (sym e) (in-line (state ln c t) h l))
+small-after : (ln : ℕ) (c : Count) (t : Nine) (l : Line) → InRoom c → (r : Stepped) (rs : List Acceleration) (x : Nine) → went ln r rs x ≡ stepLine l (state ln c t) → Small (r .counts)
+small-after ln c t l h r rs x e = go (eqb (r .fault) 0) (subst WayInRoom (sym e) (in-line (state ln c t) h l))
   where
-    go : (v : Bool) → WayInRoom (cond v (on (state (ln + 1) (asCount (r .counts)) x)) (stop (r .fault) (state ln (asCount (r .counts)) x))) → Small (r .counts)
+    go : (v : Bool) → WayInRoom (cond v (on (state (ln + 1) (asCount (r .counts) rs) x)) (stop (r .fault) (state ln (asCount (r .counts) rs) x))) → Small (r .counts)
     go true k = record { accelerations = k .0; text = k .1 }
     go false k = record { accelerations = k .0; text = k .1 }
 
 -- what is promised of a line, by what it did
-pub stepped : {I : Type 0} (n : ℕ) (c : Count) (t : Nine) (row : List ℕ) (r : Stepped) (x : Nine) → InRoom c → 1 ≤ n
-    → ((ln : ℕ) (end : End) → n ≡ ln + 1 → went ln r x ≡ stepLine (lineOf row end) (state ln c t)) → I
-    → ((ln : ℕ) (end : End) → n ≡ ln + 1 → went ln r x ≡ stepLine (lineOf row end) (state ln c t)) × I × Small (r .counts)
-stepped n c t row r x h one did i = (did, i, small-after (n - 1) c t (lineOf row cr) h r x (did (n - 1) cr (omega arith)))
+pub stepped : {I L : Type 0} (n : ℕ) (c : Count) (t : Nine) (row : List ℕ) (r : Stepped) (rs : List Acceleration) (x : Nine) → InRoom c → 1 ≤ n
+    → ((ln : ℕ) (end : End) → n ≡ ln + 1 → went ln r rs x ≡ stepLine (lineOf row end) (state ln c t)) → I → L
+    → ((ln : ℕ) (end : End) → n ≡ ln + 1 → went ln r rs x ≡ stepLine (lineOf row end) (state ln c t)) × I × Small (r .counts) × L
+stepped n c t row r rs x h one did i l = (did, i, small-after (n - 1) c t (lineOf row cr) h r rs x (did (n - 1) cr (omega arith)), l)
 
 -- ---- the number of players, which a 001 line alone changes
 abbrev WayHas : ℕ → Way State ℕ → Type 0
@@ -160,11 +160,11 @@ module _ (s : State) where
   has-row 001-record row e = clash (sym e)
   has-row unlisted row e = refl
 
-pub still-indexed : (starts index : List ℕ) (ln : ℕ) (c : Count) (t : Nine) (row : List ℕ) (k : Kind) → isPlayer k ≡ false → (r : Stepped) (x : Nine)
-    → went ln r x ≡ stepRow k row (state ln c t) → Indexed starts (c .players) index → Indexed starts (r .counts .players) index
-still-indexed starts index ln c t row k other r x e h = subst (λ (n : ℕ). Indexed starts n index) (sym (go (eqb (r .fault) 0) (subst (WayHas (c .players)) (sym e) (has-row (state ln c t) k row other)))) h
+pub still-indexed : (starts index : List ℕ) (ln : ℕ) (c : Count) (t : Nine) (row : List ℕ) (k : Kind) → isPlayer k ≡ false → (r : Stepped) (rs : List Acceleration) (x : Nine)
+    → went ln r rs x ≡ stepRow k row (state ln c t) → Indexed starts (c .players) index → Indexed starts (r .counts .players) index
+still-indexed starts index ln c t row k other r rs x e h = subst (λ (n : ℕ). Indexed starts n index) (sym (go (eqb (r .fault) 0) (subst (WayHas (c .players)) (sym e) (has-row (state ln c t) k row other)))) h
   where
-    go : (v : Bool) → WayHas (c .players) (cond v (on (state (ln + 1) (asCount (r .counts)) x)) (stop (r .fault) (state ln (asCount (r .counts)) x))) → r .counts .players ≡ c .players
+    go : (v : Bool) → WayHas (c .players) (cond v (on (state (ln + 1) (asCount (r .counts) rs) x)) (stop (r .fault) (state ln (asCount (r .counts) rs) x))) → r .counts .players ≡ c .players
     go true q = q
     go false q = q
 

@@ -6,6 +6,7 @@ use mathlib.Core.List.{List}
 use Prim.Native.Nat.{ℕ, _-_, _≤_}
 use lib.Dec.{eqb}
 use lib.ListN.{length}
+use Rattle.types.specs.declared.Acceleration.{Acceleration}
 use Rattle.law.specs.Sizes.{mostLine}
 use Rattle.law.specs.Lines.{Line, End}
 use Rattle.law.specs.Items.{kindOf, passed-over}
@@ -23,5 +24,5 @@ pub record Skipped (text : List ℕ) : Type 0 where
   pub passed : kindOf text ≡ passed-over
 
 -- what the lines left: the state after all of them, or the line that is refused, by what, and the state before it
-abbrev pub ran : Ran → Nine → Way State (ℕ × ℕ)
-ran r t = cond (eqb (r .fault) 0) (on (state (r .line .0) (asCount (r .counts)) t)) (stop (r .line .0, r .fault) (state (r .line .0 - 1) (asCount (r .counts)) t))
+abbrev pub ran : Ran → List Acceleration → Nine → Way State (ℕ × ℕ)
+ran r rs t = cond (eqb (r .fault) 0) (on (state (r .line .0) (asCount (r .counts) rs) t)) (stop (r .line .0, r .fault) (state (r .line .0 - 1) (asCount (r .counts) rs) t))

@@ -12,11 +12,13 @@ ghost use Rattle.join.specs.Store.{state, stepLine};
 ghost use Rattle.join.specs.Kept.{Long};
 ghost use Rattle.tables.specs.Lent.{lent, before, after};
 ghost use Rattle.checks.specs.Laws.{Indexed};
+ghost use Rattle.record_cells.specs.Cells.{recordCells, recordsOf};
 ghost use Rattle.steps.specs.Counts.{asCount, went, Small};
 ghost use Rattle.runs.specs.Lined.{lineOf, Skipped, ran};
 use checks::START_CELLS;
 use lines::Cursor;
 use lines::Step;
+use record_cells::RECORD_CELLS;
 use records::Kind;
 use steps::Counts;
 use steps::Stepped;
@@ -29,6 +31,7 @@ fn step(
     number: LineNumber,
     c: Counts,
     index: &mut [u8; START_CELLS],
+    cells: &mut [u32; RECORD_CELLS],
     starts: &mut [u32],
     points: &mut [u32],
     ranks: &mut [u32],
@@ -41,8 +44,8 @@ fn step(
 ) -> Stepped
     requires { ⌜ Long (lent starts points ranks kept opponents colours results text lines) ⌝ }
     requires { ⌜ Indexed (now starts) (c .players) (now index) ⌝ }
-    requires { ⌜ Small c × (1 ≤ number .0) × (all allowed (now line) ≡ true) ⌝ }
-    ensures { λ r. ⌜ ((ln : ℕ) (end : End) → number .0 ≡ ln + 1 → went ln r (after starts points ranks kept opponents colours results text lines) ≡ stepLine (lineOf (now (line .entry)) end) (state ln (asCount c) (before starts points ranks kept opponents colours results text lines))) × Indexed (now (starts .exit)) (r .counts .players) (now (index .exit)) × Small (r .counts) ⌝ }
+    requires { ⌜ Small c × (1 ≤ number .0) × (all allowed (now line) ≡ true) × (length (now cells) ≡ recordCells) ⌝ }
+    ensures { λ r. ⌜ ((ln : ℕ) (end : End) → number .0 ≡ ln + 1 → went ln r (recordsOf (now (cells .exit))) (after starts points ranks kept opponents colours results text lines) ≡ stepLine (lineOf (now (line .entry)) end) (state ln (asCount c (recordsOf (now (cells .entry)))) (before starts points ranks kept opponents colours results text lines))) × Indexed (now (starts .exit)) (r .counts .players) (now (index .exit)) × Small (r .counts) × (length (now (cells .exit)) ≡ recordCells) ⌝ }
 {
     if MOST_LINE < line.len() {
         return Stepped {
@@ -59,7 +62,7 @@ fn step(
         Kind::Rounds => steps::step_rounds(line, c),
         Kind::Colour => steps::step_colour(line, c),
         Kind::Scoring => steps::step_scoring(line, c),
-        Kind::Acceleration => steps::step_acceleration(line, number, c, lines),
+        Kind::Acceleration => steps::step_acceleration(line, number, c, cells, lines),
         Kind::Player => players::step_player(
             line,
             number,
@@ -106,6 +109,7 @@ pub fn run(
     file: &[u8],
     none: Counts,
     index: &mut [u8; START_CELLS],
+    cells: &mut [u32; RECORD_CELLS],
     starts: &mut [u32],
     points: &mut [u32],
     ranks: &mut [u32],
@@ -119,8 +123,8 @@ pub fn run(
     requires { ⌜ length (now file) ≤ mostFile ⌝ }
     requires { ⌜ Long (lent starts points ranks kept opponents colours results text lines) ⌝ }
     requires { ⌜ Indexed (now starts) (none .players) (now index) ⌝ }
-    requires { ⌜ Small none ⌝ }
-    ensures { λ r. ⌜ (ran r (after starts points ranks kept opponents colours results text lines) ≡ runAll stepLine (cut false (now (file .entry))) 0 (state 0 (asCount none) (before starts points ranks kept opponents colours results text lines))) × Indexed (now (starts .exit)) (r .counts .players) (now (index .exit)) × Small (r .counts) ⌝ }
+    requires { ⌜ Small none × (length (now cells) ≡ recordCells) ⌝ }
+    ensures { λ r. ⌜ (ran r (recordsOf (now (cells .exit))) (after starts points ranks kept opponents colours results text lines) ≡ runAll stepLine (cut false (now (file .entry))) 0 (state 0 (asCount none (recordsOf (now (cells .entry)))) (before starts points ranks kept opponents colours results text lines))) × Indexed (now (starts .exit)) (r .counts .players) (now (index .exit)) × Small (r .counts) × (length (now (cells .exit)) ≡ recordCells) ⌝ }
 {
     let mut c = none;
     let mut cursor = Cursor::new();
@@ -160,6 +164,7 @@ pub fn run(
                     LineNumber(ln + 1),
                     c,
                     index,
+                    cells,
                     starts,
                     points,
                     ranks,

@@ -4,6 +4,7 @@ use mathlib.Core.List.{List, [], _∷_}
 use Prim.Native.Nat.{ℕ, _+_, _≤_}
 use Prim.Native.Char.{code}
 use lib.Dec.{eqb}
+use Rattle.types.specs.declared.Acceleration.{Acceleration}
 use Rattle.law.specs.Sizes.{mostAccelerations, mostText}
 use Rattle.law.specs.Text.{textCodes}
 use Rattle.join.specs.Run.{Way, on, stop}
@@ -11,13 +12,14 @@ use Rattle.join.specs.Store.{Nine, Count, State, state, codePlace}
 use Rattle.steps.specs.declared.Counts.{Counts}
 use Rattle.steps.specs.declared.Stepped.{Stepped}
 
-abbrev pub asCount : Counts → Count
-asCount c =
+-- the counts, with the acceleration records that stand beside them
+abbrev pub asCount : Counts → List Acceleration → Count
+asCount c rs =
     record {
       players = c .players;
       accelerations = c .accelerations;
       text = c .text;
-      records = c .records;
+      records = rs;
       seen = c .seen;
       stated = c .stated;
       rounds = c .rounds;
@@ -32,8 +34,8 @@ pub record Small (c : Counts) : Type 0 where
   pub text : c .text ≤ mostText
 
 -- the step of a line after ln others, and what it leaves: 0 and the state after it, or a fault and the state as it was
-abbrev pub went : ℕ → Stepped → Nine → Way State ℕ
-went ln r t = cond (eqb (r .fault) 0) (on (state (ln + 1) (asCount (r .counts)) t)) (stop (r .fault) (state ln (asCount (r .counts)) t))
+abbrev pub went : ℕ → Stepped → List Acceleration → Nine → Way State ℕ
+went ln r rs t = cond (eqb (r .fault) 0) (on (state (ln + 1) (asCount (r .counts) rs) t)) (stop (r .fault) (state ln (asCount (r .counts) rs) t))
 
 -- the place among the sixteen of a text code, which ends with 2, by its first two bytes
 abbrev pub placeOfCode : ℕ → ℕ → ℕ

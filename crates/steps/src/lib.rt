@@ -2,7 +2,9 @@
 // each step is join's, on every content of the tables.
 ghost use mathlib.Core.Path.{_≡_};
 ghost use Prim.Native.Nat.{ℕ, _+_, _≤_, _<_};
-ghost use lib.ListN.{length};
+ghost use mathlib.Core.List.{List};
+ghost use lib.ListN.{length, set};
+ghost use Rattle.types.specs.declared.Acceleration as lent;
 ghost use Rattle.law.specs.Sizes.{mostLine, mostAccelerations, mostText};
 ghost use Rattle.law.specs.Columns.{part, codeField};
 ghost use Rattle.law.specs.Text.{textCodes};
@@ -10,14 +12,15 @@ ghost use Rattle.law.specs.Items as items;
 ghost use Rattle.law.specs.Tables.{lineCells};
 ghost use Rattle.law.proofs.RecordsRead.{textOf, roundsOfRow, colourOf, givenOf, accelerationOf};
 ghost use Rattle.join.specs.Store.{Nine, state, countText, countRounds, countColour, countScoring, countAcceleration, codePlace, stepText, stepRounds, stepColour, stepScoring, stepAcceleration};
+ghost use Rattle.record_cells.specs.Cells.{recordCells, recordsOf};
 ghost use Rattle.steps.specs.Counts.{asCount, went, placeOfCode, placeIn0, placeIn1, placeIn2, withText, withLines};
+use record_cells::RECORD_CELLS;
 use records::Accelerated;
 use records::Initial;
 use records::Rounds;
 use records::Text;
 use scorings::Scored;
 use scorings::Scoring;
-use types::Acceleration;
 use types::LineNumber;
 use types::MOST_ACCELERATIONS;
 use types::MOST_TEXT;
@@ -27,13 +30,12 @@ pub const TEXT_CODES: usize = 16;
 
 pub const REPEATED: usize = 9;
 
-// Kept beside the tables: how many players, acceleration records and bytes of text there are, the records, which text codes stood, and what 142, 152 and
-// 162 said.
+// Kept beside the tables: how many players, acceleration records and bytes of text there are, which text codes stood, and what 142, 152 and 162 said. The
+// records themselves are numbers in an array that is lent.
 pub struct Counts {
     pub players: usize,
     pub accelerations: usize,
     pub text: usize,
-    pub records: [Acceleration; MOST_ACCELERATIONS],
     pub seen: [bool; TEXT_CODES],
     pub stated: bool,
     pub rounds: u32,
@@ -104,7 +106,7 @@ fn place_of_code(a: u8, b: u8) -> usize
 // The counts with one more text line, of n bytes with its CR.
 fn with_text(c: Counts, place: usize, n: usize) -> Counts
     requires { ⌜ (place < 16) × (c .text ≤ mostText) × (n ≤ 65536) ⌝ }
-    ensures { λ r. ⌜ asCount r ≡ countText place n (asCount c) ⌝ }
+    ensures { λ r. ⌜ ((rs : List lent.Acceleration) → asCount r rs ≡ countText place n (asCount c rs)) ⌝ }
 {
     let mut seen = c.seen;
     seen[place] = true;
@@ -115,21 +117,17 @@ fn with_text(c: Counts, place: usize, n: usize) -> Counts
 }
 
 // One acceleration record more.
-fn with_acceleration(c: Counts, a: Acceleration) -> Counts
+fn with_acceleration(c: Counts) -> Counts
     requires { ⌜ c .accelerations < mostAccelerations ⌝ }
-    ensures { λ r. ⌜ asCount r ≡ countAcceleration a (asCount c) ⌝ }
+    ensures { λ r. ⌜ ((rs : List lent.Acceleration) (a : lent.Acceleration) → asCount r (set rs (c .accelerations) a) ≡ countAcceleration a (asCount c rs)) ⌝ }
 {
-    let n = c.accelerations;
-    let mut records = c.records;
-    records[n] = a;
     let mut counts = c;
-    counts.records = records;
-    counts.accelerations = n + 1;
+    counts.accelerations = c.accelerations + 1;
     counts
 }
 
 fn with_rounds(c: Counts, n: u32) -> Counts
-    ensures { λ r. ⌜ asCount r ≡ countRounds n (asCount c) ⌝ }
+    ensures { λ r. ⌜ ((rs : List lent.Acceleration) → asCount r rs ≡ countRounds n (asCount c rs)) ⌝ }
 {
     let mut counts = c;
     counts.stated = true;
@@ -138,7 +136,7 @@ fn with_rounds(c: Counts, n: u32) -> Counts
 }
 
 fn with_colour(c: Counts, colour: u8) -> Counts
-    ensures { λ r. ⌜ asCount r ≡ countColour colour (asCount c) ⌝ }
+    ensures { λ r. ⌜ ((rs : List lent.Acceleration) → asCount r rs ≡ countColour colour (asCount c rs)) ⌝ }
 {
     let mut counts = c;
     counts.colour = colour;
@@ -146,7 +144,7 @@ fn with_colour(c: Counts, colour: u8) -> Counts
 }
 
 fn with_scoring(c: Counts, scoring: Scoring) -> Counts
-    ensures { λ r. ⌜ asCount r ≡ countScoring (scoring .values) (asCount c) ⌝ }
+    ensures { λ r. ⌜ ((rs : List lent.Acceleration) → asCount r rs ≡ countScoring (scoring .values) (asCount c rs)) ⌝ }
 {
     let values = scoring.values;
     let mut counts = c;
@@ -168,7 +166,7 @@ pub fn text_place(line: &[u8]) -> usize
 // A line of kept text.
 pub fn step_text(line: &[u8], c: Counts, text: &mut [u8]) -> Stepped
     requires { ⌜ (items.kindOf (now line) ≡ items.kept-text) × (length (now line) ≤ mostLine) × (c .text ≤ mostText) × (mostText ≤ length (now text)) ⌝ }
-    ensures { λ r. ⌜ ((ln : ℕ) (t : Nine) → went ln r (withText t (now (text .exit))) ≡ stepText (textOf (now (line .entry))) (codePlace (part codeField (now (line .entry))) 0 textCodes) (state ln (asCount c) (withText t (now (text .entry))))) ⌝ }
+    ensures { λ r. ⌜ ((ln : ℕ) (rs : List lent.Acceleration) (t : Nine) → went ln r rs (withText t (now (text .exit))) ≡ stepText (textOf (now (line .entry))) (codePlace (part codeField (now (line .entry))) 0 textCodes) (state ln (asCount c rs) (withText t (now (text .entry))))) ⌝ }
 {
     let Text::Kept(n) = records::text_of(line) else {
         return Stepped {
@@ -199,7 +197,7 @@ pub fn step_text(line: &[u8], c: Counts, text: &mut [u8]) -> Stepped
 
 // A 142 line.
 pub fn step_rounds(line: &[u8], c: Counts) -> Stepped
-    ensures { λ r. ⌜ ((ln : ℕ) (t : Nine) → went ln r t ≡ stepRounds (roundsOfRow (now (line .entry))) (state ln (asCount c) t)) ⌝ }
+    ensures { λ r. ⌜ ((ln : ℕ) (rs : List lent.Acceleration) (t : Nine) → went ln r rs t ≡ stepRounds (roundsOfRow (now (line .entry))) (state ln (asCount c rs) t)) ⌝ }
 {
     let Rounds::Given(n) = records::rounds_of(line) else {
         return Stepped {
@@ -221,7 +219,7 @@ pub fn step_rounds(line: &[u8], c: Counts) -> Stepped
 
 // A 152 line.
 pub fn step_colour(line: &[u8], c: Counts) -> Stepped
-    ensures { λ r. ⌜ ((ln : ℕ) (t : Nine) → went ln r t ≡ stepColour (colourOf (now (line .entry))) (state ln (asCount c) t)) ⌝ }
+    ensures { λ r. ⌜ ((ln : ℕ) (rs : List lent.Acceleration) (t : Nine) → went ln r rs t ≡ stepColour (colourOf (now (line .entry))) (state ln (asCount c rs) t)) ⌝ }
 {
     let Initial::Letter(colour) = records::colour_of(line) else {
         return Stepped {
@@ -243,7 +241,7 @@ pub fn step_colour(line: &[u8], c: Counts) -> Stepped
 
 // A 162 line.
 pub fn step_scoring(line: &[u8], c: Counts) -> Stepped
-    ensures { λ r. ⌜ ((ln : ℕ) (t : Nine) → went ln r t ≡ stepScoring (givenOf (now (line .entry))) (state ln (asCount c) t)) ⌝ }
+    ensures { λ r. ⌜ ((ln : ℕ) (rs : List lent.Acceleration) (t : Nine) → went ln r rs t ≡ stepScoring (givenOf (now (line .entry))) (state ln (asCount c rs) t)) ⌝ }
 {
     let read = Scoring::from_line(line);
     if !read.good {
@@ -266,9 +264,15 @@ pub fn step_scoring(line: &[u8], c: Counts) -> Stepped
 }
 
 // A 250 line.
-pub fn step_acceleration(line: &[u8], number: LineNumber, c: Counts, lines: &mut [u32]) -> Stepped
-    requires { ⌜ (c .accelerations ≤ mostAccelerations) × (lineCells ≤ length (now lines)) ⌝ }
-    ensures { λ r. ⌜ ((ln : ℕ) (t : Nine) → number .0 ≡ ln + 1 → went ln r (withLines t (now (lines .exit))) ≡ stepAcceleration (accelerationOf (now (line .entry))) (state ln (asCount c) (withLines t (now (lines .entry))))) ⌝ }
+pub fn step_acceleration(
+    line: &[u8],
+    number: LineNumber,
+    c: Counts,
+    cells: &mut [u32; RECORD_CELLS],
+    lines: &mut [u32],
+) -> Stepped
+    requires { ⌜ (c .accelerations ≤ mostAccelerations) × (length (now cells) ≡ recordCells) × (lineCells ≤ length (now lines)) ⌝ }
+    ensures { λ r. ⌜ ((ln : ℕ) (t : Nine) → number .0 ≡ ln + 1 → went ln r (recordsOf (now (cells .exit))) (withLines t (now (lines .exit))) ≡ stepAcceleration (accelerationOf (now (line .entry))) (state ln (asCount c (recordsOf (now (cells .entry)))) (withLines t (now (lines .entry))))) × (length (now (cells .exit)) ≡ recordCells) ⌝ }
 {
     let Accelerated::Record(a) = records::acceleration_of(line) else {
         return Stepped {
@@ -283,9 +287,10 @@ pub fn step_acceleration(line: &[u8], number: LineNumber, c: Counts, lines: &mut
             counts: c,
         };
     }
+    record_cells::put(cells, n, a);
     tables::store_record_line(lines, n, number);
     Stepped {
         fault: 0,
-        counts: with_acceleration(c, a),
+        counts: with_acceleration(c),
     }
 }

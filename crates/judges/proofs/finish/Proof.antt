@@ -28,7 +28,7 @@ judge-requires c κs =
     let colours-as = c .before .before .before .before .before .before .before .before .close .ensures .long in
     let results-as = c .before .before .before .before .close2 .ensures .long in (
       (record { starts-long = l .starts-long; opponents-long = l .opponents-long; colours-long = omega (arith, colours-as, l .colours-long); results-long = omega (arith, results-as, l .results-long) }, s .pre .0 .1),
-      (s .pre .1 .0, s .pre .1 .1, subst (λ (n : ℕ). n ≤ mostRounds) (sym (c .before .before .before .before .before .before .before .before .before .before .before .before .rounds-of .ensures)) (s .pre .1 .2), s .pre .1 .3, s .pre .1 .4),
+      (s .pre .1 .0, s .pre .1 .1, subst (λ (n : ℕ). n ≤ mostRounds) (sym (c .before .before .before .before .before .before .before .before .before .before .before .before .rounds-of .ensures (s .args .records))) (s .pre .1 .2), s .pre .1 .3, s .pre .1 .4),
     )
 
 same-length : tie.Need-same-length
@@ -40,11 +40,11 @@ same-length-2 c = search needs
 returns : tie.Need-returns
 returns c =
     let a = c .before .before .before .before .before .before .before .before .before .before .before .before .before .before .before .before .before .before .before .before .before .args in (
-      c .before .before .before .before .before .before .before .before .before .before .before .before .before .rounds-of .ensures,
+      c .before .before .before .before .before .before .before .before .before .before .before .before .before .rounds-of .ensures (a .records),
       c .before .before .before .before .before .before .before .before .before .close .ensures,
       c .before .before .before .before .before .close2 .ensures,
       λ x y x-colours x-lines y-starts y-points y-opponents y-colours y-results y-lines.
-          c .judge .ensures x y y-starts y-points y-opponents y-colours y-results y-lines x-lines (past-in (asCount (a .c)) _ x x-colours x-lines (c .before .before .before .before .before .before .before .before .before .before .before .past .ensures)),
+          c .judge .ensures x y y-starts y-points y-opponents y-colours y-results y-lines x-lines (past-in (asCount (a .c) (a .records)) _ x x-colours x-lines (c .before .before .before .before .before .before .before .before .before .before .before .past .ensures)),
     )
 
 pub finish-spec : {M : Type 1} → statement M

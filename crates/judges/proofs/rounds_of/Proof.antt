@@ -9,7 +9,7 @@ use Rattle.judges.proofs.rounds_of.Tie as tie
 returns : tie.Need-returns
 returns c =
     let a = c .before .before .args in
-    rounds-stated (asCount (a .c)) (now (a .colours)) (c .if1 .taken)
+    λ rs. rounds-stated (asCount (a .c) rs) (now (a .colours)) (c .if1 .taken)
 
 rounds-seen-requires : tie.Need-rounds-seen-requires
 rounds-seen-requires c κs = search needs
@@ -17,7 +17,7 @@ rounds-seen-requires c κs = search needs
 returns-2 : tie.Need-returns-2
 returns-2 c =
     let a = c .before .before .before .args in
-    rounds-not-stated (asCount (a .c)) (now (a .colours)) (c .before .if1 .left) (c .rounds-seen .ensures)
+    λ rs. rounds-not-stated (asCount (a .c) rs) (now (a .colours)) (c .before .if1 .left) (c .rounds-seen .ensures)
 
 pub rounds-of-spec : {M : Type 1} → statement M
 rounds-of-spec = tie.close (tie.spec returns rounds-seen-requires returns-2)

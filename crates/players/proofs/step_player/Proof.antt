@@ -21,7 +21,7 @@ returns c =
     let s = c .before .before .before .before .before .before .before .before .before .before .before .before in
     let a = s .args in
     let row = a .line .now in
-    (λ ln text e. player-bad ln (asCount (a .c)) (nine (now (a .starts)) (now (a .points)) (now (a .ranks)) (now (a .kept)) (now (a .opponents)) (now (a .colours)) (now (a .results)) text (now (a .lines))) row _ (c .before .before .player-of .ensures) (c .if1 .taken), s .pre .1)
+    (λ ln rs text e. player-bad ln (asCount (a .c) rs) (nine (now (a .starts)) (now (a .points)) (now (a .ranks)) (now (a .kept)) (now (a .opponents)) (now (a .colours)) (now (a .results)) text (now (a .lines))) row _ (c .before .before .player-of .ensures) (c .if1 .taken), s .pre .1)
 
 place-of-requires : tie.Need-place-of-requires
 place-of-requires c κs = search needs
@@ -39,7 +39,7 @@ returns-2 c =
     let row = a .line .now in
     let f = read-row row _ (c .before .before .before .before .before .before .before .player-of .ensures) (c .before .before .before .before .before .if1 .left) in
     let told = c .before .before .place-of .ensures (now (a .starts)) (a .c .players) (s .pre .1 .says) (s .pre .1 .low) in
-    (λ ln text e. player-again ln (asCount (a .c)) (nine (now (a .starts)) (now (a .points)) (now (a .ranks)) (now (a .kept)) (now (a .opponents)) (now (a .colours)) (now (a .results)) text (now (a .lines))) row _ f told (c .enum-told2 .given .1), s .pre .1)
+    (λ ln rs text e. player-again ln (asCount (a .c) rs) (nine (now (a .starts)) (now (a .points)) (now (a .ranks)) (now (a .kept)) (now (a .opponents)) (now (a .colours)) (now (a .results)) text (now (a .lines))) row _ f told (c .enum-told2 .given .1), s .pre .1)
 
 add-if2 : tie.Need-add-if2
 add-if2 c =
@@ -56,7 +56,7 @@ returns-3 c =
     let row = a .line .now in
     let f = read-row row _ (c .before .before .before .before .before .before .before .before .before .player-of .ensures) (c .before .before .before .before .before .before .before .if1 .left) in
     let told = c .before .before .before .before .place-of .ensures (now (a .starts)) (a .c .players) (s .pre .1 .says) (s .pre .1 .low) in
-    (λ ln text e. player-full ln (asCount (a .c)) (nine (now (a .starts)) (now (a .points)) (now (a .ranks)) (now (a .kept)) (now (a .opponents)) (now (a .colours)) (now (a .results)) text (now (a .lines))) row _ f told (c .before .before .enum-told .given .1) (c .if2 .taken), s .pre .1)
+    (λ ln rs text e. player-full ln (asCount (a .c) rs) (nine (now (a .starts)) (now (a .points)) (now (a .ranks)) (now (a .kept)) (now (a .opponents)) (now (a .colours)) (now (a .results)) text (now (a .lines))) row _ f told (c .before .before .enum-told .given .1) (c .if2 .taken), s .pre .1)
 
 cast-t20 : tie.Need-cast-t20
 cast-t20 c = search needs
@@ -111,10 +111,10 @@ returns-4 c =
     let nobody = c .before .before .before .before .before .before .before .before .before .before .before .before .before .before .before .before .before .before .before .before .before .before .before .before .before .before .before .before .before .before .before .enum-told .given .1 in
     let stored = c .before .before .before .before .before .before .before .before .before .before .before .before .before .before .before .before .before .before .before .store-player .ensures in
     let more = c .with-player .ensures in (
-      λ ln text e.
-          player-on ln (asCount (a .c)) (nine (now (a .starts)) (now (a .points)) (now (a .ranks)) (now (a .kept)) (now (a .opponents)) (now (a .colours)) (now (a .results)) text (now (a .lines))) row _ f told nobody room more (stored (f .player) text (f .row-is) ∙ ap (λ (n : ℕ). storePlayer (f .player) (a .c .players) n (nine (now (a .starts)) (now (a .points)) (now (a .ranks)) (now (a .kept)) (now (a .opponents)) (now (a .colours)) (now (a .results)) text (now (a .lines)))) e),
+      λ ln rs text e.
+          player-on ln (asCount (a .c) rs) (nine (now (a .starts)) (now (a .points)) (now (a .ranks)) (now (a .kept)) (now (a .opponents)) (now (a .colours)) (now (a .results)) text (now (a .lines))) row _ f told nobody room (more rs) (stored (f .player) text (f .row-is) ∙ ap (λ (n : ℕ). storePlayer (f .player) (a .c .players) n (nine (now (a .starts)) (now (a .points)) (now (a .ranks)) (now (a .kept)) (now (a .opponents)) (now (a .colours)) (now (a .results)) text (now (a .lines)))) e),
       indexed-more (now (a .starts)) (now (a .index)) (a .c .players) _ (s .pre .1) (s .pre .0 .starts-long) (f .low) room told nobody
-          (starts-of (f .player) (a .c .players) (a .number .0) (nine (now (a .starts)) (now (a .points)) (now (a .ranks)) (now (a .kept)) (now (a .opponents)) (now (a .colours)) (now (a .results)) [] (now (a .lines))) (stored (f .player) [] (f .row-is)) ∙ ap (set (now (a .starts)) (a .c .players)) (sym (f .start-is))) (players-of (asCount (a .c)) more) (c .before .index-start .ensures),
+          (starts-of (f .player) (a .c .players) (a .number .0) (nine (now (a .starts)) (now (a .points)) (now (a .ranks)) (now (a .kept)) (now (a .opponents)) (now (a .colours)) (now (a .results)) [] (now (a .lines))) (stored (f .player) [] (f .row-is)) ∙ ap (set (now (a .starts)) (a .c .players)) (sym (f .start-is))) (players-of (asCount (a .c) []) (more [])) (c .before .index-start .ensures),
     )
 
 pub step-player-spec : {M : Type 1} → statement M

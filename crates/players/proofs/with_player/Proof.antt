@@ -1,4 +1,5 @@
 -- `players::with_player` meets its contract. Assumes nothing.
+use mathlib.Core.Path.{refl}
 use borrow.Author.Needs.{needs}
 use Rattle.join.specs.Store.{countPlayer}
 use Rattle.players.proofs.with_player.Statement.{statement}
@@ -9,7 +10,7 @@ add-counts c = search needs
 
 returns : tie.Need-returns
 unfolding countPlayer
-returns c = search needs
+returns c = λ rs. refl
 
 pub with-player-spec : {M : Type 1} → statement M
 with-player-spec = tie.close (tie.spec add-counts returns)

@@ -12,11 +12,11 @@ use Rattle.runs.proofs.run.Statement.{statement}
 use Rattle.runs.proofs.run.Tie as tie
 
 abbrev Inv-loop : tie.InvT-loop
-Inv-loop file index₀ starts₀ points₀ ranks₀ kept₀ opponents₀ colours₀ results₀ text₀ lines₀ c₀ cursor₀ ln₀ index starts points ranks kept opponents colours results text lines c cursor ln =
-    Going file (nine starts₀ points₀ ranks₀ kept₀ opponents₀ colours₀ results₀ text₀ lines₀) c₀ (nine starts points ranks kept opponents colours results text lines) index c (cursor .at) ln
+Inv-loop file index₀ cells₀ starts₀ points₀ ranks₀ kept₀ opponents₀ colours₀ results₀ text₀ lines₀ c₀ cursor₀ ln₀ index cells starts points ranks kept opponents colours results text lines c cursor ln =
+    Going file (nine starts₀ points₀ ranks₀ kept₀ opponents₀ colours₀ results₀ text₀ lines₀) c₀ cells₀ (nine starts points ranks kept opponents colours results text lines) index c cells (cursor .at) ln
 
 abbrev μ-loop : tie.MeasureT-loop
-μ-loop file index₀ starts₀ points₀ ranks₀ kept₀ opponents₀ colours₀ results₀ text₀ lines₀ c₀ cursor₀ ln₀ index starts points ranks kept opponents colours results text lines c cursor ln =
+μ-loop file index₀ cells₀ starts₀ points₀ ranks₀ kept₀ opponents₀ colours₀ results₀ text₀ lines₀ c₀ cursor₀ ln₀ index cells starts points ranks kept opponents colours results text lines c cursor ln =
     length file - cursor .at
 
 new-requires : tie.Need-new-requires Inv-loop μ-loop
@@ -26,7 +26,7 @@ loop-holds : tie.Need-loop-holds Inv-loop μ-loop
 loop-holds c =
     let s = c .before .before .before .before .before .before .before .before .before .before .before in
     let a = s .args in
-    going-none (now (a .file)) (nine (now (a .starts)) (now (a .points)) (now (a .ranks)) (now (a .kept)) (now (a .opponents)) (now (a .colours)) (now (a .results)) (now (a .text)) (now (a .lines))) (a .none) (now (a .index)) _ (c .new .ensures) (s .pre .1 .1 .0) (s .pre .1 .1 .1)
+    going-none (now (a .file)) (nine (now (a .starts)) (now (a .points)) (now (a .ranks)) (now (a .kept)) (now (a .opponents)) (now (a .colours)) (now (a .results)) (now (a .text)) (now (a .lines))) (a .none) (now (a .cells)) (now (a .index)) _ (c .new .ensures) (s .pre .1 .1 .0) (s .pre .1 .1 .1 .0) (s .pre .1 .1 .1 .1)
 
 next-line-requires : tie.Need-next-line-requires Inv-loop μ-loop
 next-line-requires c κs = search needs
@@ -73,13 +73,13 @@ same-length-9 c =
 returns : tie.Need-returns Inv-loop μ-loop
 returns c =
     let l = c .before .before .before .loop in
-    (going-done (l .inv) (told-done _ _ (c .before .before .next-line .ensures) (c .enum-told .given .1)), l .inv .indexed, l .inv .room)
+    (going-done (l .inv) (told-done _ _ (c .before .before .next-line .ensures) (c .enum-told .given .1)), l .inv .indexed, l .inv .room, l .inv .cells-long)
 
 enum-told-2 : tie.Need-enum-told-2 Inv-loop μ-loop
 enum-told-2 c = search needs
 
-add-t24 : tie.Need-add-t24 Inv-loop μ-loop
-add-t24 c =
+add-t25 : tie.Need-add-t25 Inv-loop μ-loop
+add-t25 c =
     let i = c .before .before .before .loop .inv in
     let f = c .before .before .before .before .before .before .before .before .before .before .before .before .before .before .before .pre .0 in
     omega (arith, i .within, i .small, f)
@@ -114,13 +114,13 @@ same-length-18 c = c .before .before .before .loop .inv .alike .lines
 returns-2 : tie.Need-returns-2 Inv-loop μ-loop
 returns-2 c =
     let l = c .before .before .before .loop in
-    (going-fault (l .inv) (told-broken _ _ (c .before .before .next-line .ensures) (c .enum-told2 .given .1)) (λ z. omega (arith, z)), l .inv .indexed, l .inv .room)
+    (going-fault (l .inv) (told-broken _ _ (c .before .before .next-line .ensures) (c .enum-told2 .given .1)) (λ z. omega (arith, z)), l .inv .indexed, l .inv .room, l .inv .cells-long)
 
 enum-told-3 : tie.Need-enum-told-3 Inv-loop μ-loop
 enum-told-3 c = search needs
 
-add-t26 : tie.Need-add-t26 Inv-loop μ-loop
-add-t26 c =
+add-t27 : tie.Need-add-t27 Inv-loop μ-loop
+add-t27 c =
     let i = c .before .before .before .loop .inv in
     let f = c .before .before .before .before .before .before .before .before .before .before .before .before .before .before .before .pre .0 in
     omega (arith, i .within, i .small, f)
@@ -155,7 +155,7 @@ same-length-27 c = c .before .before .before .loop .inv .alike .lines
 returns-3 : tie.Need-returns-3 Inv-loop μ-loop
 returns-3 c =
     let l = c .before .before .before .loop in
-    (going-fault (l .inv) (told-foul _ _ (c .before .before .next-line .ensures) (c .enum-told3 .given .1)) (λ z. omega (arith, z)), l .inv .indexed, l .inv .room)
+    (going-fault (l .inv) (told-foul _ _ (c .before .before .next-line .ensures) (c .enum-told3 .given .1)) (λ z. omega (arith, z)), l .inv .indexed, l .inv .room, l .inv .cells-long)
 
 enum-known-from : tie.Need-enum-known-from Inv-loop μ-loop
 enum-known-from c = search needs
@@ -199,89 +199,89 @@ loop-again c =
     let m = told-whole _ _ (c .before .before .before .before .before .before .next-line .ensures) (c .before .before .before .before .from .given .1) in
     going-skip (l .inv) m (c .before .is-skipped .ensures (c .if1 .taken))
 
-add-t32 : tie.Need-add-t32 Inv-loop μ-loop
-add-t32 c =
+add-t33 : tie.Need-add-t33 Inv-loop μ-loop
+add-t33 c =
     let i = c .before .before .before .before .before .before .before .loop .inv in
     let f = c .before .before .before .before .before .before .before .before .before .before .before .before .before .before .before .before .before .before .before .pre .0 in
     search needs
 
 step-requires : tie.Need-step-requires Inv-loop μ-loop
 step-requires c κs =
-    let i = c .before .before .before .before .before .before .before .before .before .before .before .before .before .before .before .before .before .loop .inv in
-    let s = c .before .before .before .before .before .before .before .before .before .before .before .before .before .before .before .before .before .before .before .before .before .before .before .before .before .before .before .before .before in
-    let m = told-whole _ _ (c .before .before .before .before .before .before .before .before .before .before .before .before .before .before .before .before .next-line .ensures) (c .before .before .before .before .before .before .before .before .before .before .before .before .before .before .from .given .1) in
-    (long-as (i .alike) (s .pre .1 .0), (i .indexed, (i .room, omega arith, m .clean)))
+    let i = c .before .before .before .before .before .before .before .before .before .before .before .before .before .before .before .before .before .before .loop .inv in
+    let s = c .before .before .before .before .before .before .before .before .before .before .before .before .before .before .before .before .before .before .before .before .before .before .before .before .before .before .before .before .before .before in
+    let m = told-whole _ _ (c .before .before .before .before .before .before .before .before .before .before .before .before .before .before .before .before .before .next-line .ensures) (c .before .before .before .before .before .before .before .before .before .before .before .before .before .before .before .from .given .1) in
+    (long-as (i .alike) (s .pre .1 .0), (i .indexed, (i .room, omega arith, m .clean, i .cells-long)))
 
-add-t54 : tie.Need-add-t54 Inv-loop μ-loop
-add-t54 c =
-    let i = c .before .before .before .before .before .before .before .before .before .before .before .before .before .before .before .before .before .before .before .before .before .before .before .before .before .before .before .before .before .before .before .before .before .before .before .before .before .before .before .loop .inv in
-    let f = c .before .before .before .before .before .before .before .before .before .before .before .before .before .before .before .before .before .before .before .before .before .before .before .before .before .before .before .before .before .before .before .before .before .before .before .before .before .before .before .before .before .before .before .before .before .before .before .before .before .before .before .pre .0 in
+add-t56 : tie.Need-add-t56 Inv-loop μ-loop
+add-t56 c =
+    let i = c .before .before .before .before .before .before .before .before .before .before .before .before .before .before .before .before .before .before .before .before .before .before .before .before .before .before .before .before .before .before .before .before .before .before .before .before .before .before .before .before .loop .inv in
+    let f = c .before .before .before .before .before .before .before .before .before .before .before .before .before .before .before .before .before .before .before .before .before .before .before .before .before .before .before .before .before .before .before .before .before .before .before .before .before .before .before .before .before .before .before .before .before .before .before .before .before .before .before .before .pre .0 in
     omega (arith, i .within, i .small, f)
 
 same-length-28 : tie.Need-same-length-28 Inv-loop μ-loop
 same-length-28 c =
     let r = c .before .before .before .before .before .before .before .before .before .before .before .before .before .before .before .before .before .before .before .before .before .step in
-    r .kept .1 .1 .1 .1 .0 ∙ c .before .before .before .before .before .before .before .before .before .before .before .before .before .before .before .before .before .before .before .before .before .before .before .before .before .before .before .before .before .before .before .before .before .before .before .before .before .before .before .loop .inv .alike .starts
+    r .kept .1 .1 .1 .1 .1 .0 ∙ c .before .before .before .before .before .before .before .before .before .before .before .before .before .before .before .before .before .before .before .before .before .before .before .before .before .before .before .before .before .before .before .before .before .before .before .before .before .before .before .before .loop .inv .alike .starts
 
 same-length-29 : tie.Need-same-length-29 Inv-loop μ-loop
 same-length-29 c =
     let r = c .before .before .before .before .before .before .before .before .before .before .before .before .before .before .before .before .before .before .before .before .before .step in
-    r .kept .1 .1 .1 .1 .1 .0 ∙ c .before .before .before .before .before .before .before .before .before .before .before .before .before .before .before .before .before .before .before .before .before .before .before .before .before .before .before .before .before .before .before .before .before .before .before .before .before .before .before .loop .inv .alike .points
+    r .kept .1 .1 .1 .1 .1 .1 .0 ∙ c .before .before .before .before .before .before .before .before .before .before .before .before .before .before .before .before .before .before .before .before .before .before .before .before .before .before .before .before .before .before .before .before .before .before .before .before .before .before .before .before .loop .inv .alike .points
 
 same-length-30 : tie.Need-same-length-30 Inv-loop μ-loop
 same-length-30 c =
     let r = c .before .before .before .before .before .before .before .before .before .before .before .before .before .before .before .before .before .before .before .before .before .step in
-    r .kept .1 .1 .1 .1 .1 .1 .0 ∙ c .before .before .before .before .before .before .before .before .before .before .before .before .before .before .before .before .before .before .before .before .before .before .before .before .before .before .before .before .before .before .before .before .before .before .before .before .before .before .before .loop .inv .alike .ranks
+    r .kept .1 .1 .1 .1 .1 .1 .1 .0 ∙ c .before .before .before .before .before .before .before .before .before .before .before .before .before .before .before .before .before .before .before .before .before .before .before .before .before .before .before .before .before .before .before .before .before .before .before .before .before .before .before .before .loop .inv .alike .ranks
 
 same-length-31 : tie.Need-same-length-31 Inv-loop μ-loop
 same-length-31 c =
     let r = c .before .before .before .before .before .before .before .before .before .before .before .before .before .before .before .before .before .before .before .before .before .step in
-    r .kept .1 .1 .1 .1 .1 .1 .1 .0 ∙ c .before .before .before .before .before .before .before .before .before .before .before .before .before .before .before .before .before .before .before .before .before .before .before .before .before .before .before .before .before .before .before .before .before .before .before .before .before .before .before .loop .inv .alike .kept
+    r .kept .1 .1 .1 .1 .1 .1 .1 .1 .0 ∙ c .before .before .before .before .before .before .before .before .before .before .before .before .before .before .before .before .before .before .before .before .before .before .before .before .before .before .before .before .before .before .before .before .before .before .before .before .before .before .before .before .loop .inv .alike .kept
 
 same-length-32 : tie.Need-same-length-32 Inv-loop μ-loop
 same-length-32 c =
     let r = c .before .before .before .before .before .before .before .before .before .before .before .before .before .before .before .before .before .before .before .before .before .step in
-    r .kept .1 .1 .1 .1 .1 .1 .1 .1 .0 ∙ c .before .before .before .before .before .before .before .before .before .before .before .before .before .before .before .before .before .before .before .before .before .before .before .before .before .before .before .before .before .before .before .before .before .before .before .before .before .before .before .loop .inv .alike .opponents
+    r .kept .1 .1 .1 .1 .1 .1 .1 .1 .1 .0 ∙ c .before .before .before .before .before .before .before .before .before .before .before .before .before .before .before .before .before .before .before .before .before .before .before .before .before .before .before .before .before .before .before .before .before .before .before .before .before .before .before .before .loop .inv .alike .opponents
 
 same-length-33 : tie.Need-same-length-33 Inv-loop μ-loop
 same-length-33 c =
     let r = c .before .before .before .before .before .before .before .before .before .before .before .before .before .before .before .before .before .before .before .before .before .step in
-    r .kept .1 .1 .1 .1 .1 .1 .1 .1 .1 .0 ∙ c .before .before .before .before .before .before .before .before .before .before .before .before .before .before .before .before .before .before .before .before .before .before .before .before .before .before .before .before .before .before .before .before .before .before .before .before .before .before .before .loop .inv .alike .colours
+    r .kept .1 .1 .1 .1 .1 .1 .1 .1 .1 .1 .0 ∙ c .before .before .before .before .before .before .before .before .before .before .before .before .before .before .before .before .before .before .before .before .before .before .before .before .before .before .before .before .before .before .before .before .before .before .before .before .before .before .before .before .loop .inv .alike .colours
 
 same-length-34 : tie.Need-same-length-34 Inv-loop μ-loop
 same-length-34 c =
     let r = c .before .before .before .before .before .before .before .before .before .before .before .before .before .before .before .before .before .before .before .before .before .step in
-    r .kept .1 .1 .1 .1 .1 .1 .1 .1 .1 .1 .0 ∙ c .before .before .before .before .before .before .before .before .before .before .before .before .before .before .before .before .before .before .before .before .before .before .before .before .before .before .before .before .before .before .before .before .before .before .before .before .before .before .before .loop .inv .alike .results
+    r .kept .1 .1 .1 .1 .1 .1 .1 .1 .1 .1 .1 .0 ∙ c .before .before .before .before .before .before .before .before .before .before .before .before .before .before .before .before .before .before .before .before .before .before .before .before .before .before .before .before .before .before .before .before .before .before .before .before .before .before .before .before .loop .inv .alike .results
 
 same-length-35 : tie.Need-same-length-35 Inv-loop μ-loop
 same-length-35 c =
     let r = c .before .before .before .before .before .before .before .before .before .before .before .before .before .before .before .before .before .before .before .before .before .step in
-    r .kept .1 .1 .1 .1 .1 .1 .1 .1 .1 .1 .1 .0 ∙ c .before .before .before .before .before .before .before .before .before .before .before .before .before .before .before .before .before .before .before .before .before .before .before .before .before .before .before .before .before .before .before .before .before .before .before .before .before .before .before .loop .inv .alike .text
+    r .kept .1 .1 .1 .1 .1 .1 .1 .1 .1 .1 .1 .1 .0 ∙ c .before .before .before .before .before .before .before .before .before .before .before .before .before .before .before .before .before .before .before .before .before .before .before .before .before .before .before .before .before .before .before .before .before .before .before .before .before .before .before .before .loop .inv .alike .text
 
 same-length-36 : tie.Need-same-length-36 Inv-loop μ-loop
 same-length-36 c =
     let r = c .before .before .before .before .before .before .before .before .before .before .before .before .before .before .before .before .before .before .before .before .before .step in
-    r .kept .1 .1 .1 .1 .1 .1 .1 .1 .1 .1 .1 .1 .0 ∙ c .before .before .before .before .before .before .before .before .before .before .before .before .before .before .before .before .before .before .before .before .before .before .before .before .before .before .before .before .before .before .before .before .before .before .before .before .before .before .before .loop .inv .alike .lines
+    r .kept .1 .1 .1 .1 .1 .1 .1 .1 .1 .1 .1 .1 .1 .0 ∙ c .before .before .before .before .before .before .before .before .before .before .before .before .before .before .before .before .before .before .before .before .before .before .before .before .before .before .before .before .before .before .before .before .before .before .before .before .before .before .before .before .loop .inv .alike .lines
 
 returns-4 : tie.Need-returns-4 Inv-loop μ-loop
 returns-4 c =
-    let s = c .before .before .before .before .before .before .before .before .before .before .before .before .before .before .before .before .before .before .before .before .before .before .before .before .before .before .before .before .before .before .before .before .before .before .before .before .before .before .before .before .before .before .before .before .before .before .before .before .before .before .before in
-    let l = c .before .before .before .before .before .before .before .before .before .before .before .before .before .before .before .before .before .before .before .before .before .before .before .before .before .before .before .before .before .before .before .before .before .before .before .before .before .before .before .loop in
-    let m = told-whole _ _ (c .before .before .before .before .before .before .before .before .before .before .before .before .before .before .before .before .before .before .before .before .before .before .before .before .before .before .before .before .before .before .before .before .before .before .before .before .before .before .next-line .ensures) (c .before .before .before .before .before .before .before .before .before .before .before .before .before .before .before .before .before .before .before .before .before .before .before .before .before .before .before .before .before .before .before .before .before .before .before .before .from .given .1) in
+    let s = c .before .before .before .before .before .before .before .before .before .before .before .before .before .before .before .before .before .before .before .before .before .before .before .before .before .before .before .before .before .before .before .before .before .before .before .before .before .before .before .before .before .before .before .before .before .before .before .before .before .before .before .before in
+    let l = c .before .before .before .before .before .before .before .before .before .before .before .before .before .before .before .before .before .before .before .before .before .before .before .before .before .before .before .before .before .before .before .before .before .before .before .before .before .before .before .before .loop in
+    let m = told-whole _ _ (c .before .before .before .before .before .before .before .before .before .before .before .before .before .before .before .before .before .before .before .before .before .before .before .before .before .before .before .before .before .before .before .before .before .before .before .before .before .before .before .next-line .ensures) (c .before .before .before .before .before .before .before .before .before .before .before .before .before .before .before .before .before .before .before .before .before .before .before .before .before .before .before .before .before .before .before .before .before .before .before .before .before .from .given .1) in
     let r = c .before .before .before .before .before .before .before .before .before .before .before .before .before .before .before .before .before .before .before .before .before .step in
-    (going-stop (l .inv) m (r .result) _ (r .ensures .0) (c .if2 .taken), r .ensures .1, r .ensures .2)
+    (going-stop (l .inv) m (r .result) _ _ (r .ensures .0) (c .if2 .taken), r .ensures .1, r .ensures .2, r .ensures .3)
 
 add-ln-2 : tie.Need-add-ln-2 Inv-loop μ-loop
 add-ln-2 c =
-    let i = c .before .before .before .before .before .before .before .before .before .before .before .before .before .before .before .before .before .before .before .before .before .before .before .before .before .before .before .before .before .before .before .before .before .before .before .before .before .before .before .loop .inv in
-    let f = c .before .before .before .before .before .before .before .before .before .before .before .before .before .before .before .before .before .before .before .before .before .before .before .before .before .before .before .before .before .before .before .before .before .before .before .before .before .before .before .before .before .before .before .before .before .before .before .before .before .before .before .pre .0 in
+    let i = c .before .before .before .before .before .before .before .before .before .before .before .before .before .before .before .before .before .before .before .before .before .before .before .before .before .before .before .before .before .before .before .before .before .before .before .before .before .before .before .before .loop .inv in
+    let f = c .before .before .before .before .before .before .before .before .before .before .before .before .before .before .before .before .before .before .before .before .before .before .before .before .before .before .before .before .before .before .before .before .before .before .before .before .before .before .before .before .before .before .before .before .before .before .before .before .before .before .before .before .pre .0 in
     omega (arith, i .within, i .small, f)
 
 loop-less-2 : tie.Need-loop-less-2 Inv-loop μ-loop
 loop-less-2 c =
-    let s = c .before .before .before .before .before .before .before .before .before .before .before .before .before .before .before .before .before .before .before .before .before .before .before .before .before .before .before .before .before .before .before .before .before .before .before .before .before .before .before .before .before .before .before .before .before .before .before .before .before .before .before in
-    let l = c .before .before .before .before .before .before .before .before .before .before .before .before .before .before .before .before .before .before .before .before .before .before .before .before .before .before .before .before .before .before .before .before .before .before .before .before .before .before .before .loop in
-    let m = told-whole _ _ (c .before .before .before .before .before .before .before .before .before .before .before .before .before .before .before .before .before .before .before .before .before .before .before .before .before .before .before .before .before .before .before .before .before .before .before .before .before .before .next-line .ensures) (c .before .before .before .before .before .before .before .before .before .before .before .before .before .before .before .before .before .before .before .before .before .before .before .before .before .before .before .before .before .before .before .before .before .before .before .before .from .given .1) in
+    let s = c .before .before .before .before .before .before .before .before .before .before .before .before .before .before .before .before .before .before .before .before .before .before .before .before .before .before .before .before .before .before .before .before .before .before .before .before .before .before .before .before .before .before .before .before .before .before .before .before .before .before .before .before in
+    let l = c .before .before .before .before .before .before .before .before .before .before .before .before .before .before .before .before .before .before .before .before .before .before .before .before .before .before .before .before .before .before .before .before .before .before .before .before .before .before .before .before .loop in
+    let m = told-whole _ _ (c .before .before .before .before .before .before .before .before .before .before .before .before .before .before .before .before .before .before .before .before .before .before .before .before .before .before .before .before .before .before .before .before .before .before .before .before .before .before .before .next-line .ensures) (c .before .before .before .before .before .before .before .before .before .before .before .before .before .before .before .before .before .before .before .before .before .before .before .before .before .before .before .before .before .before .before .before .before .before .before .before .before .from .given .1) in
     let r = c .before .before .before .before .before .before .before .before .before .before .before .before .before .before .before .before .before .before .before .before .before .step in
     let p = m .past in
     let q = m .forward in
@@ -290,11 +290,11 @@ loop-less-2 c =
 
 loop-again-2 : tie.Need-loop-again-2 Inv-loop μ-loop
 loop-again-2 c =
-    let s = c .before .before .before .before .before .before .before .before .before .before .before .before .before .before .before .before .before .before .before .before .before .before .before .before .before .before .before .before .before .before .before .before .before .before .before .before .before .before .before .before .before .before .before .before .before .before .before .before .before .before .before in
-    let l = c .before .before .before .before .before .before .before .before .before .before .before .before .before .before .before .before .before .before .before .before .before .before .before .before .before .before .before .before .before .before .before .before .before .before .before .before .before .before .before .loop in
-    let m = told-whole _ _ (c .before .before .before .before .before .before .before .before .before .before .before .before .before .before .before .before .before .before .before .before .before .before .before .before .before .before .before .before .before .before .before .before .before .before .before .before .before .before .next-line .ensures) (c .before .before .before .before .before .before .before .before .before .before .before .before .before .before .before .before .before .before .before .before .before .before .before .before .before .before .before .before .before .before .before .before .before .before .before .before .from .given .1) in
+    let s = c .before .before .before .before .before .before .before .before .before .before .before .before .before .before .before .before .before .before .before .before .before .before .before .before .before .before .before .before .before .before .before .before .before .before .before .before .before .before .before .before .before .before .before .before .before .before .before .before .before .before .before .before in
+    let l = c .before .before .before .before .before .before .before .before .before .before .before .before .before .before .before .before .before .before .before .before .before .before .before .before .before .before .before .before .before .before .before .before .before .before .before .before .before .before .before .before .loop in
+    let m = told-whole _ _ (c .before .before .before .before .before .before .before .before .before .before .before .before .before .before .before .before .before .before .before .before .before .before .before .before .before .before .before .before .before .before .before .before .before .before .before .before .before .before .before .next-line .ensures) (c .before .before .before .before .before .before .before .before .before .before .before .before .before .before .before .before .before .before .before .before .before .before .before .before .before .before .before .before .before .before .before .before .before .before .before .before .before .from .given .1) in
     let r = c .before .before .before .before .before .before .before .before .before .before .before .before .before .before .before .before .before .before .before .before .before .step in
-    going-next (l .inv) m (r .result) _ (r .ensures .0) (c .if2 .left) (record { starts = r .kept .1 .1 .1 .1 .0; points = r .kept .1 .1 .1 .1 .1 .0; ranks = r .kept .1 .1 .1 .1 .1 .1 .0; kept = r .kept .1 .1 .1 .1 .1 .1 .1 .0; opponents = r .kept .1 .1 .1 .1 .1 .1 .1 .1 .0; colours = r .kept .1 .1 .1 .1 .1 .1 .1 .1 .1 .0; results = r .kept .1 .1 .1 .1 .1 .1 .1 .1 .1 .1 .0; text = r .kept .1 .1 .1 .1 .1 .1 .1 .1 .1 .1 .1 .0; lines = r .kept .1 .1 .1 .1 .1 .1 .1 .1 .1 .1 .1 .1 .0 }) (r .ensures .1) (r .ensures .2)
+    going-next (l .inv) m (r .result) _ _ (r .ensures .0) (c .if2 .left) (record { starts = r .kept .1 .1 .1 .1 .1 .0; points = r .kept .1 .1 .1 .1 .1 .1 .0; ranks = r .kept .1 .1 .1 .1 .1 .1 .1 .0; kept = r .kept .1 .1 .1 .1 .1 .1 .1 .1 .0; opponents = r .kept .1 .1 .1 .1 .1 .1 .1 .1 .1 .0; colours = r .kept .1 .1 .1 .1 .1 .1 .1 .1 .1 .1 .0; results = r .kept .1 .1 .1 .1 .1 .1 .1 .1 .1 .1 .1 .0; text = r .kept .1 .1 .1 .1 .1 .1 .1 .1 .1 .1 .1 .1 .0; lines = r .kept .1 .1 .1 .1 .1 .1 .1 .1 .1 .1 .1 .1 .1 .0 }) (r .ensures .1) (r .ensures .2) (r .ensures .3)
 
 pub run-spec : {M : Type 1} → statement M
 run-spec =
@@ -317,7 +317,7 @@ run-spec =
     same-length-9
     returns
     enum-told-2
-    add-t24
+    add-t25
     same-length-10
     same-length-11
     same-length-12
@@ -329,7 +329,7 @@ run-spec =
     same-length-18
     returns-2
     enum-told-3
-    add-t26
+    add-t27
     same-length-19
     same-length-20
     same-length-21
@@ -348,9 +348,9 @@ run-spec =
     add-ln
     loop-less
     loop-again
-    add-t32
+    add-t33
     step-requires
-    add-t54
+    add-t56
     same-length-28
     same-length-29
     same-length-30

@@ -23,13 +23,13 @@ returns : tie.Need-returns
 returns c =
     let a = c .before .before .before .before .args in
     let o = colourOf (a .line .now) in
-    λ ln t. colour-bad ln (asCount (a .c)) t o (none-said o (sym (c .before .before .colour-of .ensures) ∙ ap initialSays (c .enum-told .given .1)))
+    λ ln rs t. colour-bad ln (asCount (a .c) rs) t o (none-said o (sym (c .before .before .colour-of .ensures) ∙ ap initialSays (c .enum-told .given .1)))
 
 returns-2 : tie.Need-returns-2
 returns-2 c =
     let a = c .before .before .before .before .before .before .before .args in
     let o = colourOf (a .line .now) in
-    λ ln t. colour-again ln (asCount (a .c)) t o _ (value-said o _ (sym (c .before .before .before .before .before .colour-of .ensures) ∙ ap initialSays (c .before .before .before .colour .given .1))) (ne-eqb (a .c .colour) 0 (c .if1 .taken))
+    λ ln rs t. colour-again ln (asCount (a .c) rs) t o _ (value-said o _ (sym (c .before .before .before .before .before .colour-of .ensures) ∙ ap initialSays (c .before .before .before .colour .given .1))) (ne-eqb (a .c .colour) 0 (c .if1 .taken))
 
 with-colour-requires : tie.Need-with-colour-requires
 with-colour-requires c κs = search needs
@@ -38,7 +38,7 @@ returns-3 : tie.Need-returns-3
 returns-3 c =
     let a = c .before .before .before .before .before .before .before .before .args in
     let o = colourOf (a .line .now) in
-    λ ln t. colour-on ln (asCount (a .c)) t o _ (value-said o _ (sym (c .before .before .before .before .before .before .colour-of .ensures) ∙ ap initialSays (c .before .before .before .before .colour .given .1))) (eq-eqb (a .c .colour) 0 (c .before .if1 .left)) (c .with-colour .ensures)
+    λ ln rs t. colour-on ln (asCount (a .c) rs) t o _ (value-said o _ (sym (c .before .before .before .before .before .before .colour-of .ensures) ∙ ap initialSays (c .before .before .before .before .colour .given .1))) (eq-eqb (a .c .colour) 0 (c .before .if1 .left)) (c .with-colour .ensures rs)
 
 pub step-colour-spec : {M : Type 1} → statement M
 step-colour-spec =

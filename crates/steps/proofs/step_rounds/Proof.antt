@@ -22,13 +22,13 @@ returns : tie.Need-returns
 returns c =
     let a = c .before .before .before .before .args in
     let o = roundsOfRow (a .line .now) in
-    λ ln t. rounds-bad ln (asCount (a .c)) t o (none-said o (sym (c .before .before .rounds-of .ensures) ∙ ap roundsSays (c .enum-told .given .1)))
+    λ ln rs t. rounds-bad ln (asCount (a .c) rs) t o (none-said o (sym (c .before .before .rounds-of .ensures) ∙ ap roundsSays (c .enum-told .given .1)))
 
 returns-2 : tie.Need-returns-2
 returns-2 c =
     let a = c .before .before .before .before .before .before .args in
     let o = roundsOfRow (a .line .now) in
-    λ ln t. rounds-again ln (asCount (a .c)) t o _ (value-said o _ (sym (c .before .before .before .before .rounds-of .ensures) ∙ ap roundsSays (c .before .before .n .given .1))) (c .if1 .taken)
+    λ ln rs t. rounds-again ln (asCount (a .c) rs) t o _ (value-said o _ (sym (c .before .before .before .before .rounds-of .ensures) ∙ ap roundsSays (c .before .before .n .given .1))) (c .if1 .taken)
 
 with-rounds-requires : tie.Need-with-rounds-requires
 with-rounds-requires c κs = search needs
@@ -37,7 +37,7 @@ returns-3 : tie.Need-returns-3
 returns-3 c =
     let a = c .before .before .before .before .before .before .before .args in
     let o = roundsOfRow (a .line .now) in
-    λ ln t. rounds-on ln (asCount (a .c)) t o _ (value-said o _ (sym (c .before .before .before .before .before .rounds-of .ensures) ∙ ap roundsSays (c .before .before .before .n .given .1))) (c .before .if1 .left) (c .with-rounds .ensures)
+    λ ln rs t. rounds-on ln (asCount (a .c) rs) t o _ (value-said o _ (sym (c .before .before .before .before .before .rounds-of .ensures) ∙ ap roundsSays (c .before .before .before .n .given .1))) (c .before .if1 .left) (c .with-rounds .ensures rs)
 
 pub step-rounds-spec : {M : Type 1} → statement M
 step-rounds-spec =

@@ -18,14 +18,14 @@ returns : tie.Need-returns
 returns c =
     let a = c .before .before .before .before .args in
     let o = givenOf (a .line .now) in
-    λ ln t. scoring-bad ln (asCount (a .c)) t o (no-scoring o _ (c .before .before .from-line .ensures) (c .if1 .taken))
+    λ ln rs t. scoring-bad ln (asCount (a .c) rs) t o (no-scoring o _ (c .before .before .from-line .ensures) (c .if1 .taken))
 
 returns-2 : tie.Need-returns-2
 returns-2 c =
     let a = c .before .before .before .before .before .args in
     let o = givenOf (a .line .now) in
     let h = scoring-there o _ (c .before .before .before .from-line .ensures) (c .before .if1 .left) in
-    λ ln t. scoring-again ln (asCount (a .c)) t o (h .0) (h .1 .0) (c .if2 .taken)
+    λ ln rs t. scoring-again ln (asCount (a .c) rs) t o (h .0) (h .1 .0) (c .if2 .taken)
 
 with-scoring-requires : tie.Need-with-scoring-requires
 with-scoring-requires c κs = search needs
@@ -35,9 +35,9 @@ returns-3 c =
     let a = c .before .before .before .before .before .before .before .args in
     let o = givenOf (a .line .now) in
     let h = scoring-there o _ (c .before .before .before .before .before .from-line .ensures) (c .before .before .before .if1 .left) in
-    λ ln t.
-    scoring-on ln (asCount (a .c)) t o (h .0) (h .1 .0) (c .before .before .if2 .left)
-    (c .with-scoring .ensures ∙ ap (λ (v : List ℕ). countScoring v (asCount (a .c))) (h .1 .1))
+    λ ln rs t.
+    scoring-on ln (asCount (a .c) rs) t o (h .0) (h .1 .0) (c .before .before .if2 .left)
+    (c .with-scoring .ensures rs ∙ ap (λ (v : List ℕ). countScoring v (asCount (a .c) rs)) (h .1 .1))
 
 pub step-scoring-spec : {M : Type 1} → statement M
 step-scoring-spec =

@@ -26,7 +26,7 @@ returns : tie.Need-returns
 returns c =
     let a = c .before .before .before .before .before .args in
     let row = a .line .now in
-    λ ln t. text-bad ln (asCount (a .c)) (withText t (a .text .now)) (textOf row) (codePlace (part codeField row) 0 textCodes) (no-text (textOf row) (sym (c .before .before .text-of .ensures) ∙ ap textSays (c .enum-told .given .1)))
+    λ ln rs t. text-bad ln (asCount (a .c) rs) (withText t (a .text .now)) (textOf row) (codePlace (part codeField row) 0 textCodes) (no-text (textOf row) (sym (c .before .before .text-of .ensures) ∙ ap textSays (c .enum-told .given .1)))
 
 text-place-requires : tie.Need-text-place-requires
 text-place-requires c κs = search needs
@@ -39,7 +39,7 @@ returns-2 c =
     let a = c .before .before .before .before .before .before .before .before .before .args in
     let row = a .line .now in
     let f = front-of row _ (sym (c .before .before .before .before .before .before .text-of .ensures) ∙ ap textSays (c .before .before .before .before .n .given .1)) in
-    λ ln t. text-again ln (asCount (a .c)) (withText t (a .text .now)) row _ f (codePlace (part codeField row) 0 textCodes) (c .before .before .text-place .ensures .0) (c .if1 .taken)
+    λ ln rs t. text-again ln (asCount (a .c) rs) (withText t (a .text .now)) row _ f (codePlace (part codeField row) 0 textCodes) (c .before .before .text-place .ensures .0) (c .if1 .taken)
 
 add-if2 : tie.Need-add-if2
 add-if2 c =
@@ -62,7 +62,7 @@ returns-3 c =
     let a = c .before .before .before .before .before .before .before .before .before .before .before .args in
     let row = a .line .now in
     let f = front-of row _ (sym (c .before .before .before .before .before .before .before .before .text-of .ensures) ∙ ap textSays (c .before .before .before .before .before .before .n .given .1)) in
-    λ ln t. text-full ln (asCount (a .c)) (withText t (a .text .now)) row _ f (codePlace (part codeField row) 0 textCodes) (c .before .before .before .before .text-place .ensures .0) (c .before .before .if1 .left) (c .if2 .taken)
+    λ ln rs t. text-full ln (asCount (a .c) rs) (withText t (a .text .now)) row _ f (codePlace (part codeField row) 0 textCodes) (c .before .before .before .before .text-place .ensures .0) (c .before .before .if1 .left) (c .if2 .taken)
 
 store-text-requires : tie.Need-store-text-requires
 store-text-requires c κs =
@@ -87,8 +87,8 @@ returns-4 c =
     let a = c .before .before .before .before .before .before .before .before .before .before .before .before .before .before .before .before .args in
     let row = a .line .now in
     let f = front-of row _ (sym (c .before .before .before .before .before .before .before .before .before .before .before .before .before .text-of .ensures) ∙ ap textSays (c .before .before .before .before .before .before .before .before .before .before .before .n .given .1)) in
-    λ ln t.
-    text-on ln (asCount (a .c)) (withText t (a .text .now)) row _ f (codePlace (part codeField row) 0 textCodes) (c .before .before .before .before .before .before .before .before .before .text-place .ensures .0) (c .before .before .before .before .before .before .before .if1 .left) (c .before .before .before .before .before .if2 .left) (c .with-text .ensures)
+    λ ln rs t.
+    text-on ln (asCount (a .c) rs) (withText t (a .text .now)) row _ f (codePlace (part codeField row) 0 textCodes) (c .before .before .before .before .before .before .before .before .before .text-place .ensures .0) (c .before .before .before .before .before .before .before .if1 .left) (c .before .before .before .before .before .if2 .left) (c .with-text .ensures rs)
     (c .before .before .before .store-text .ensures)
 
 pub step-text-spec : {M : Type 1} → statement M

@@ -1,4 +1,5 @@
 -- `steps::with_text` meets its contract. Assumes nothing.
+use mathlib.Core.Path.{refl}
 use borrow.Author.Needs.{needs}
 use Rattle.join.specs.Store.{countText}
 use Rattle.steps.proofs.with_text.Statement.{statement}
@@ -12,7 +13,7 @@ add-counts c = search needs
 
 returns : tie.Need-returns
 unfolding countText
-returns c = search needs
+returns c = λ rs. refl
 
 pub with-text-spec : {M : Type 1} → statement M
 with-text-spec = tie.close (tie.spec array-write-seen add-counts returns)
