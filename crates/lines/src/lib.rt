@@ -12,10 +12,12 @@ ghost use Rattle.lines.specs.Step.{CRFrom, Clean, Stop, StepMeans};
 use types::CR;
 use types::LF;
 
-// How many bytes are tested at once, and how many one by one before that.
+// How many bytes are tested one by one at first, how many at once then, and how many at once where those are too many.
+const NEAR: usize = 4;
+
 const BLOCK: usize = 32;
 
-const NEAR: usize = 4;
+const SMALL_BLOCK: usize = 8;
 
 // How many bytes mark a comment.
 const MARK: usize = 3;
@@ -73,16 +75,16 @@ pub fn all_allowed(line: &[u8]) -> bool
 }
 
 // Past whole blocks of allowed bytes.
-fn past_blocks(file: &[u8], at: usize) -> usize
-    requires { ⌜ at ≤ length (now file) ⌝ }
+fn past_blocks(file: &[u8], at: usize, block: usize) -> usize
+    requires { ⌜ (at ≤ length (now file)) × (1 ≤ block) ⌝ }
     ensures { λ r. ⌜ (at ≤ r) × (r ≤ length (now (file .entry))) × Clean (now (file .entry)) at r ⌝ }
 {
     let mut i = at;
-    while BLOCK <= file.len() - i {
-        if !all_allowed(&file[i..i + BLOCK]) {
+    while block <= file.len() - i {
+        if !all_allowed(&file[i..i + block]) {
             return i;
         }
-        i += BLOCK;
+        i += block;
     }
     i
 }
@@ -110,7 +112,7 @@ fn stop_within(file: &[u8], at: usize, to: usize) -> usize
 }
 
 // The place of the first byte from a place on that is not allowed, or the file's length: a few bytes one by one, since a file may be made of the shortest lines,
-// then block by block, since most are long.
+// then block by block, since most are long, and by small blocks in the last.
 fn stop_from(file: &[u8], at: usize) -> usize
     requires { ⌜ (at ≤ length (now file)) × (length (now file) ≤ mostFile) ⌝ }
     ensures { λ r. ⌜ Stop (now (file .entry)) at (length (now (file .entry))) r ⌝ }
@@ -120,8 +122,9 @@ fn stop_from(file: &[u8], at: usize) -> usize
         if near < at + NEAR {
             return near;
         }
-        let far = past_blocks(file, near);
-        return stop_within(file, far, file.len());
+        let far = past_blocks(file, near, BLOCK);
+        let close = past_blocks(file, far, SMALL_BLOCK);
+        return stop_within(file, close, file.len());
     }
     stop_within(file, at, file.len())
 }

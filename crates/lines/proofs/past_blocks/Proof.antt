@@ -12,10 +12,10 @@ use Rattle.lines.proofs.past_blocks.Statement.{statement}
 use Rattle.lines.proofs.past_blocks.Tie as tie
 
 abbrev Inv-loop : tie.InvT-loop
-Inv-loop file at i₀ i = (at ≤ i) × (i ≤ length file) × Clean file at i
+Inv-loop file at block i₀ i = (at ≤ i) × (i ≤ length file) × Clean file at i
 
 abbrev μ-loop : tie.MeasureT-loop
-μ-loop file at i₀ i = length file - i
+μ-loop file at block i₀ i = length file - i
 
 loop-holds : tie.Need-loop-holds Inv-loop μ-loop
 loop-holds c = (search needs, search needs, λ k l m. absurd (omega arith))
@@ -53,8 +53,8 @@ loop-again c =
     let a = c .before .before .before .before .before .before .args in (
       search needs,
       search needs,
-      clean-join (now (a .file)) (a .at) (l .i) (l .i + 32) (l .inv .2)
-          (clean-slice (now (a .file)) (l .i) (l .i + 32) (omega arith) (search needs) (sym (c .before .all-allowed .ensures) ∙ not-false _ (c .if1 .left))),
+      clean-join (now (a .file)) (a .at) (l .i) (l .i + a .block) (l .inv .2)
+          (clean-slice (now (a .file)) (l .i) (l .i + a .block) (omega arith) (search needs) (sym (c .before .all-allowed .ensures) ∙ not-false _ (c .if1 .left))),
     )
 
 returns-2 : tie.Need-returns-2 Inv-loop μ-loop

@@ -24,15 +24,20 @@ returns c = stop-near (c .before .stop-within .ensures) (c .if2 .taken) (let h =
 past-blocks-requires : tie.Need-past-blocks-requires
 past-blocks-requires c κs = search needs
 
+past-blocks-requires-2 : tie.Need-past-blocks-requires-2
+past-blocks-requires-2 c κs = (c .past-blocks .ensures .1, omega arith)
+
 stop-within-requires-2 : tie.Need-stop-within-requires-2
 stop-within-requires-2 c κs = search needs
 
 returns-2 : tie.Need-returns-2
 returns-2 c =
-    let a = c .before .before .before .before .before .before .args in
-    let s = c .before .before .before .stop-within in
-    let p = c .before .past-blocks in
-    stop-past (let u = s .ensures .after in let v = p .ensures .0 in omega arith) (clean-join (now (a .file)) (a .at) (s .result) (p .result) (s .ensures .clean) (p .ensures .2)) (c .stop-within2 .ensures)
+    let a = c .before .before .before .before .before .before .before .args in
+    let s = c .before .before .before .before .stop-within in
+    let p = c .before .before .past-blocks in
+    let q = c .before .past-blocks2 in
+    let near = clean-join (now (a .file)) (a .at) (s .result) (p .result) (s .ensures .clean) (p .ensures .2) in
+    stop-past (let u = s .ensures .after in let v = p .ensures .0 in let w = q .ensures .0 in omega arith) (clean-join (now (a .file)) (a .at) (p .result) (q .result) near (q .ensures .2)) (c .stop-within2 .ensures)
 
 stop-within-requires-3 : tie.Need-stop-within-requires-3
 stop-within-requires-3 c κs = search needs
@@ -50,6 +55,7 @@ stop-from-spec =
     add-if2
     returns
     past-blocks-requires
+    past-blocks-requires-2
     stop-within-requires-2
     returns-2
     stop-within-requires-3
