@@ -14,28 +14,30 @@ ghost use mathlib.Core.List.{[], _∷_, _++_};
 ghost use Prim.Native.Nat.{_+_, _-_, _≤_, _<_};
 ghost use lib.ListN.{length, replicate};
 ghost use Rattle.kit.specs.Lists.{all, among, conj, flat};
+ghost use Rattle.kit.specs.Decides.{to};
 ghost use Rattle.law.specs.Columns.{blank, isBlank, cells, elseBlank, afterCode};
 ghost use Rattle.law.specs.Players.{slotColours, slotResults, roundFields, everyRound, playerFields, capital as capitalOf};
+ghost use Rattle.law.specs.Tournament.{blankAs, normal};
 ghost use Rattle.law.proofs.RecordsRead.{slotOf, slotsOf, playerOf};
-ghost use Rattle.fields.specs.Said.{orBadField};
-ghost use Rattle.rows.specs.Rows.{playerColumns, slotSays, noSlots, SlotsSay, noRow, RowSays};
+ghost use Rattle.join.specs.Store.{rawCell};
+ghost use Rattle.fields.specs.Said.{says, orBadField};
+ghost use Rattle.rows.specs.Rows.{playerColumns, slotSays, bye, noSlots, SlotsSay, noRow, RowSays};
 
 // The columns up to the last round's result.
 const COLUMNS: usize = 89 + 10 * MOST_ROUNDS;
 
-// A round's columns on a 001 line: the id, 0 where it is blank, the colour as it stands, the result as a capital, and whether a byte of them is not blank.
+// A round's columns on a 001 line as they are stored: opponent, colour, result; zeros where no byte of them is other than blank.
 enum Slot {
-    Read(u32, u8, u8, bool),
+    Read(u32, u8, u8),
     Bad,
 }
 
-// The rounds of a 001 line, the r-th in cell r - 1; zeros where they are not good.
+// The rounds of a 001 line as they are stored, the r-th in cell r - 1; zeros where they are not good.
 struct Slots {
     good: bool,
     ids: [u32; MOST_ROUNDS],
     colours: [u8; MOST_ROUNDS],
     results: [u8; MOST_ROUNDS],
-    used: [bool; MOST_ROUNDS],
 }
 
 // A 001 line; zeros where it is not good.
@@ -48,7 +50,6 @@ pub struct Row {
     pub ids: [u32; MOST_ROUNDS],
     pub colours: [u8; MOST_ROUNDS],
     pub results: [u8; MOST_ROUNDS],
-    pub used: [bool; MOST_ROUNDS],
 }
 
 fn capital(c: u8) -> u8
@@ -90,9 +91,26 @@ fn is_used(colour: u8, code: u8) -> bool
     !((colour == b' ') & (code == b' '))
 }
 
+// A letter of a round without an opponent: other stands for a blank one.
+fn blank_as(other: u8, letter: u8) -> u8
+    ensures { λ r. ⌜ r ≡ blankAs other letter ⌝ }
+{
+    if letter == b' ' {
+        return other;
+    }
+    letter
+}
+
+// A round without an opponent, of which a byte is not blank.
+fn bye_of(colour: u8, result: u8) -> Slot
+    ensures { λ r. ⌜ slotSays r ≡ says (normal (bye colour result)) ⌝ }
+{
+    Slot::Read(0, blank_as(b'-', colour), blank_as(b'Z', result))
+}
+
 fn slot_of(line: &[u8], round: usize) -> Slot
     requires { ⌜ (1 ≤ round) × (round ≤ 20) × (playerColumns ≤ length (now line)) ⌝ }
-    ensures { λ r. ⌜ slotSays r ≡ orBadField (slotOf (now (line .entry)) round) ⌝ }
+    ensures { λ r. ⌜ slotSays r ≡ orBadField (to rawCell (slotOf (now (line .entry)) round)) ⌝ }
 {
     let at = 81 + 10 * round;
     let colour = line[at + 5];
@@ -105,13 +123,19 @@ fn slot_of(line: &[u8], round: usize) -> Slot
         return Slot::Bad;
     }
     let n = fields::number_of(line[at], line[at + 1], line[at + 2], line[at + 3]);
-    let Number::Value(id) = n else {
+    let Number::Value(opponent) = n else {
         let Number::Blank = n else {
             return Slot::Bad;
         };
-        return Slot::Read(0, colour, result, is_used(colour, code));
+        if !is_used(colour, code) {
+            return Slot::Read(0, 0, 0);
+        }
+        return bye_of(colour, result);
     };
-    Slot::Read(id, colour, result, true)
+    if opponent == 0 {
+        return bye_of(colour, result);
+    }
+    Slot::Read(opponent, colour, result)
 }
 
 fn no_slots() -> Slots
@@ -122,7 +146,6 @@ fn no_slots() -> Slots
         ids: [0; MOST_ROUNDS],
         colours: [0; MOST_ROUNDS],
         results: [0; MOST_ROUNDS],
-        used: [false; MOST_ROUNDS],
     }
 }
 
@@ -133,16 +156,14 @@ fn slots_of(line: &[u8]) -> Slots
     let mut ids = [0u32; MOST_ROUNDS];
     let mut colours = [0u8; MOST_ROUNDS];
     let mut results = [0u8; MOST_ROUNDS];
-    let mut used = [false; MOST_ROUNDS];
     let mut i = 0;
     while i < MOST_ROUNDS {
-        let Slot::Read(id, colour, result, is) = slot_of(line, i + 1) else {
+        let Slot::Read(id, colour, result) = slot_of(line, i + 1) else {
             return no_slots();
         };
         ids[i] = id;
         colours[i] = colour;
         results[i] = result;
-        used[i] = is;
         i += 1;
     }
     Slots {
@@ -150,7 +171,6 @@ fn slots_of(line: &[u8]) -> Slots
         ids,
         colours,
         results,
-        used,
     }
 }
 
@@ -223,7 +243,6 @@ fn no_row() -> Row
         ids: [0; MOST_ROUNDS],
         colours: [0; MOST_ROUNDS],
         results: [0; MOST_ROUNDS],
-        used: [false; MOST_ROUNDS],
     }
 }
 
@@ -255,7 +274,6 @@ fn wide_player(line: &[u8]) -> Row
     let ids = slots.ids;
     let colours = slots.colours;
     let results = slots.results;
-    let used = slots.used;
     Row {
         good: true,
         start: StartNumber(start),
@@ -265,7 +283,6 @@ fn wide_player(line: &[u8]) -> Row
         ids,
         colours,
         results,
-        used,
     }
 }
 
