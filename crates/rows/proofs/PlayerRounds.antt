@@ -2,8 +2,8 @@
 use mathlib.Core.Path.{_≡_, refl, sym, ap, ap₂, subst, _∙_}
 use mathlib.Core.Bool.{Bool, true, false, _&&_, not}
 use mathlib.Core.Option.{Option, none, some}
-use mathlib.Core.List.{List, [], _∷_, _++_, map, map-map, append-nil}
-use Prim.Native.Nat.{ℕ, suc, _+_, _*_, _-_, _≤_, _<_}
+use mathlib.Core.List.{List, [], _∷_, _++_, map, map-map}
+use Prim.Native.Nat.{ℕ, zero, suc, _+_, _*_, _-_, _≤_, _<_}
 use Prim.Native.Char.{code}
 use native.Mathlib.Numerals.{add-one}
 use native.Mathlib.Omega.{arith}
@@ -29,8 +29,12 @@ use Rattle.kept_columns.proofs.KeptColumns.{gap}
 use Rattle.rows.specs.declared.Slots.{Slots}
 use Rattle.rows.specs.Rows.{bye, noSlots, theSlots, SlotsSay, idsOf, coloursOf, resultsOf}
 
-abbrev slotFrom : ℕ → ℕ → ℕ → Bool → Slot
+abbrev pub slotFrom : ℕ → ℕ → ℕ → Bool → Slot
 slotFrom i c r u = record { id = i; colour = c; result = r; used = u }
+
+-- a wholly blank one
+abbrev pub noSlot : Slot
+noSlot = slotFrom 0 blank blank false
 
 -- ---- what is stored of a round
 raw-none : (i x y : ℕ) (u : Bool) → u ≡ false → noEntry ≡ rawCell (slotFrom i x y u)
@@ -80,7 +84,7 @@ two-tests a b = ap (λ (v : Bool). a && v) (sym (and-true b))
 abbrev pub idBytes : List ℕ → ℕ → List ℕ
 idBytes row r = getD row (81 + 10 * r) 0 ∷ getD row (81 + 10 * r + 1) 0 ∷ getD row (81 + 10 * r + 2) 0 ∷ getD row (81 + 10 * r + 3) 0 ∷ []
 
-module _ (row : List ℕ) (r : ℕ) (h : 1 ≤ r) (h-most : r ≤ 20) (long : 289 ≤ length row) where
+module _ (row : List ℕ) (r : ℕ) (h : 1 ≤ r) (long : 89 + 10 * r ≤ length row) where
   there : (k : ℕ) → k ≤ 7 → getD row (81 + 10 * r + k) blank ≡ getD row (81 + 10 * r + k) 0
   there k q = getD-any row (81 + 10 * r + k) blank 0 (omega arith)
 
@@ -151,6 +155,10 @@ set-next {A} g z slots s i n l h =
     ∙ sym (append-snoc (map g slots) (g s) (replicate (n - (i + 1)) z))
     ∙ ap (λ (k : List A). k ++ replicate (n - (i + 1)) z) (sym (map-append g slots (s ∷ [])))
 
+map-replicate : {A B : Type 0} (g : A → B) (n : ℕ) (a : A) → map g (replicate n a) ≡ replicate n (g a)
+map-replicate g zero a = refl
+map-replicate {B = B} g (suc n) a = ap (λ (l : List B). g a ∷ l) (map-replicate g n a)
+
 abbrev asSlots : Option (List Slot) → Slots
 asSlots o = standing (λ (x : Slots). x .good) noSlots theSlots o
 
@@ -205,19 +213,22 @@ module _ (row : List ℕ) (i : ℕ) (ids colours results : List ℕ) (f : Read r
         let s = to-some rawCell (slotOf row (i + 1)) c e in
         subst (λ (x : Entry). Read row (i + 1) (set ids i (x .id)) (set colours i (x .colour)) (set results i (x .result))) (s .1 .1) (read-more (s .0) (s .1 .0))
 
-  column-read : (g : Entry → ℕ) (l : List ℕ) → l ≡ map (λ (s : Slot). g (rawCell s)) (f .slots) ++ replicate (20 - i) 0 → i ≡ 20 → l ≡ map g (map rawCell (f .slots))
-  column-read g l l-is e =
-      let n : 20 - i ≡ 0 = omega arith in
-      l-is ∙ ap (λ (k : ℕ). map (λ (s : Slot). g (rawCell s)) (f .slots) ++ replicate k 0) n ∙ append-nil (map (λ (s : Slot). g (rawCell s)) (f .slots)) ∙ sym (map-map g rawCell (f .slots))
+  column-read : (g : Entry → ℕ) → g noEntry ≡ 0 → (l : List ℕ) → l ≡ map (λ (s : Slot). g (rawCell s)) (f .slots) ++ replicate (20 - i) 0
+      → l ≡ map g (map rawCell (f .slots ++ replicate (20 - i) noSlot))
+  column-read g z l l-is =
+      l-is
+      ∙ ap (λ (k : List ℕ). map (λ (s : Slot). g (rawCell s)) (f .slots) ++ k) (ap (replicate (20 - i)) (sym z) ∙ sym (map-replicate (λ (s : Slot). g (rawCell s)) (20 - i) noSlot))
+      ∙ sym (map-append (λ (s : Slot). g (rawCell s)) (f .slots) (replicate (20 - i) noSlot))
+      ∙ sym (map-map g rawCell (f .slots ++ replicate (20 - i) noSlot))
 
-  pub all-read : i ≡ 20 → SlotsSay (slotsOf row) (record { good = true; ids = ids; colours = colours; results = results })
+  -- the others are wholly blank
+  pub all-read : each (slotOf row) (from (i + 1) (20 - i)) ≡ some (replicate (20 - i) noSlot) → SlotsSay (slotsOf row) (record { good = true; ids = ids; colours = colours; results = results })
   unfolding theSlots idsOf coloursOf resultsOf
-  all-read e =
-      let n : 20 - i ≡ 0 = omega arith in
-      let whole : slotsOf row ≡ some (f .slots) = f .rest ∙ ap (λ (k : ℕ). to (λ (l : List Slot). f .slots ++ l) (each (slotOf row) (from (i + 1) k))) n ∙ ap some (append-nil (f .slots)) in
-      let a = column-read (λ (c : Entry). c .id) ids (f .ids-are) e in
-      let b = column-read (λ (c : Entry). c .colour) colours (f .colours-are) e in
-      let d = column-read (λ (c : Entry). c .result) results (f .results-are) e in
+  all-read others =
+      let whole : slotsOf row ≡ some (f .slots ++ replicate (20 - i) noSlot) = f .rest ∙ ap (to (λ (l : List Slot). f .slots ++ l)) others in
+      let a = column-read (λ (c : Entry). c .id) refl ids (f .ids-are) in
+      let b = column-read (λ (c : Entry). c .colour) refl colours (f .colours-are) in
+      let d = column-read (λ (c : Entry). c .result) refl results (f .results-are) in
       slots-are (slotsOf row) (record { good = true; ids = ids; colours = colours; results = results }) ((λ k. record { good = true; ids = a k; colours = b k; results = d k }) ∙ ap asSlots (sym whole))
 
 -- ---- the columns between the rounds' fields

@@ -1,10 +1,12 @@
 -- What the readers of a 001 line answer: document 01's number and values for each case of their enum, and of the structs that stand in for one.
+use mathlib.Core.Path.{_≡_}
 use mathlib.Core.Bool.{true, false}
 use mathlib.Core.Option.{Option}
 use mathlib.Core.List.{List, map}
-use Prim.Native.Nat.{ℕ}
-use lib.ListN.{replicate}
+use Prim.Native.Nat.{ℕ, _+_, _*_, _≤_, _<_}
+use lib.ListN.{length, getD, replicate}
 use Rattle.law.specs.Sizes.{mostRounds}
+use Rattle.law.specs.Columns.{blank}
 use Rattle.law.specs.Players as law
 use Rattle.law.specs.Tournament.{Entry}
 use Rattle.join.specs.Store.{rawCell, rawCells}
@@ -14,9 +16,18 @@ use Rattle.rows.specs.declared.Slot.the-variants as slot
 use Rattle.rows.specs.declared.Slots.{Slots}
 use Rattle.rows.specs.declared.Row.{Row}
 
--- the columns up to the last round's result
+-- the columns before the rounds and those of the first n rounds; all of them
+abbrev pub roundsEnd : ℕ → ℕ
+roundsEnd n = 89 + 10 * n
+
 abbrev pub playerColumns : ℕ
 playerColumns = law.resultColumn mostRounds
+
+-- a line has the columns of its first rounds, and those of the rounds after them are blank
+pub record Reaches (line : List ℕ) (reach : ℕ) : Type 0 where
+  pub most : reach ≤ mostRounds
+  pub long : roundsEnd reach ≤ length line
+  pub blank-on : (i : ℕ) → roundsEnd reach ≤ i → i < playerColumns → getD line i blank ≡ blank
 
 -- a round as it is stored
 abbrev pub slotSays : Slot → Said Entry

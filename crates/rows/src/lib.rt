@@ -15,13 +15,14 @@ ghost use Prim.Native.Nat.{_+_, _-_, _≤_, _<_};
 ghost use lib.ListN.{length, replicate};
 ghost use Rattle.kit.specs.Lists.{all, among, conj, flat};
 ghost use Rattle.kit.specs.Decides.{to};
+ghost use Rattle.law.specs.Sizes.{mostRounds};
 ghost use Rattle.law.specs.Columns.{blank, isBlank, cells, elseBlank, afterCode};
 ghost use Rattle.law.specs.Players.{slotColours, slotResults, roundFields, everyRound, playerFields, capital as capitalOf};
 ghost use Rattle.law.specs.Tournament.{blankAs, normal};
 ghost use Rattle.law.proofs.RecordsRead.{slotOf, slotsOf, playerOf};
 ghost use Rattle.join.specs.Store.{rawCell};
 ghost use Rattle.fields.specs.Said.{says, orBadField};
-ghost use Rattle.rows.specs.Rows.{playerColumns, slotSays, bye, noSlots, SlotsSay, noRow, RowSays};
+ghost use Rattle.rows.specs.Rows.{roundsEnd, playerColumns, Reaches, slotSays, bye, noSlots, SlotsSay, noRow, RowSays};
 
 // The columns up to the last round's result.
 const COLUMNS: usize = 89 + 10 * MOST_ROUNDS;
@@ -109,7 +110,7 @@ fn bye_of(colour: u8, result: u8) -> Slot
 }
 
 fn slot_of(line: &[u8], round: usize) -> Slot
-    requires { ⌜ (1 ≤ round) × (round ≤ 20) × (playerColumns ≤ length (now line)) ⌝ }
+    requires { ⌜ (1 ≤ round) × (round ≤ mostRounds) × (roundsEnd round ≤ length (now line)) ⌝ }
     ensures { λ r. ⌜ slotSays r ≡ orBadField (to rawCell (slotOf (now (line .entry)) round)) ⌝ }
 {
     let at = 81 + 10 * round;
@@ -149,15 +150,15 @@ fn no_slots() -> Slots
     }
 }
 
-fn slots_of(line: &[u8]) -> Slots
-    requires { ⌜ playerColumns ≤ length (now line) ⌝ }
+fn slots_of(line: &[u8], reach: usize) -> Slots
+    requires { ⌜ Reaches (now line) reach ⌝ }
     ensures { λ r. ⌜ SlotsSay (slotsOf (now (line .entry))) r ⌝ }
 {
     let mut ids = [0u32; MOST_ROUNDS];
     let mut colours = [0u8; MOST_ROUNDS];
     let mut results = [0u8; MOST_ROUNDS];
     let mut i = 0;
-    while i < MOST_ROUNDS {
+    while i < reach {
         let Slot::Read(id, colour, result) = slot_of(line, i + 1) else {
             return no_slots();
         };
@@ -198,12 +199,12 @@ fn round_else_blank(line: &[u8], at: usize) -> bool
     blank_column(line, at + 8)
 }
 
-fn rounds_else_blank(line: &[u8]) -> bool
-    requires { ⌜ playerColumns ≤ length (now line) ⌝ }
+fn rounds_else_blank(line: &[u8], reach: usize) -> bool
+    requires { ⌜ Reaches (now line) reach ⌝ }
     ensures { λ r. ⌜ r ≡ elseBlank 90 (flat roundFields everyRound) (now (line .entry)) ⌝ }
 {
     let mut i = 0;
-    while i < MOST_ROUNDS {
+    while i < reach {
         if !round_else_blank(line, 89 + 10 * i) {
             return false;
         }
@@ -212,8 +213,8 @@ fn rounds_else_blank(line: &[u8]) -> bool
     fields::blank_from(line, COLUMNS)
 }
 
-fn player_else_blank(line: &[u8]) -> bool
-    requires { ⌜ playerColumns ≤ length (now line) ⌝ }
+fn player_else_blank(line: &[u8], reach: usize) -> bool
+    requires { ⌜ Reaches (now line) reach ⌝ }
     ensures { λ r. ⌜ r ≡ elseBlank afterCode playerFields (now (line .entry)) ⌝ }
 {
     if !blank_column(line, 3) {
@@ -228,7 +229,7 @@ fn player_else_blank(line: &[u8]) -> bool
     if !blank_column(line, 84) {
         return false;
     }
-    rounds_else_blank(line)
+    rounds_else_blank(line, reach)
 }
 
 fn no_row() -> Row
@@ -246,12 +247,12 @@ fn no_row() -> Row
     }
 }
 
-// A line that has all the columns: those of its rounds and the kept ones are taken without a test.
-fn wide_player(line: &[u8]) -> Row
-    requires { ⌜ playerColumns ≤ length (now line) ⌝ }
+// A line that has the columns of all rounds that it reaches: these and the kept ones are taken without a test.
+fn wide_player(line: &[u8], reach: usize) -> Row
+    requires { ⌜ Reaches (now line) reach ⌝ }
     ensures { λ r. ⌜ RowSays (playerOf (now (line .entry))) r ⌝ }
 {
-    if !player_else_blank(line) {
+    if !player_else_blank(line, reach) {
         return no_row();
     }
     let kept = kept_columns::kept_of(line);
@@ -267,7 +268,7 @@ fn wide_player(line: &[u8]) -> Row
     let Number::Value(rank) = fields::counted_at(line, 85, MOST_RANK) else {
         return no_row();
     };
-    let slots = slots_of(line);
+    let slots = slots_of(line, reach);
     if !slots.good {
         return no_row();
     }
@@ -300,12 +301,26 @@ fn widened(line: &[u8]) -> [u8; COLUMNS]
     wide
 }
 
+// How many rounds a line of n columns reaches: those of which it has a column.
+fn reach_of(n: usize) -> usize
+    ensures { λ r. ⌜ (r ≤ mostRounds) × (r < mostRounds → n ≤ roundsEnd r) ⌝ }
+{
+    if COLUMNS <= n {
+        return MOST_ROUNDS;
+    }
+    if n < 90 {
+        return 0;
+    }
+    (n - 80) / 10
+}
+
 pub fn player_of(line: &[u8]) -> Row
     ensures { λ r. ⌜ RowSays (playerOf (now (line .entry))) r ⌝ }
 {
-    if line.len() < COLUMNS {
+    let reach = reach_of(line.len());
+    if line.len() < 89 + 10 * reach {
         let wide = widened(line);
-        return wide_player(&wide);
+        return wide_player(&wide, reach);
     }
-    wide_player(line)
+    wide_player(line, reach)
 }

@@ -27,7 +27,7 @@ is-slot-colour-requires c κs = tt
 returns : tie.Need-returns
 returns c =
     let p = c .before .before .before .before in
-    colour-bad (p .args .line .now) (p .args .round) (p .pre .0) (p .pre .1) (p .pre .2) (sym (c .before .is-slot-colour .ensures) ∙ not-true _ (c .if1 .taken))
+    colour-bad (p .args .line .now) (p .args .round) (p .pre .0) (p .pre .2) (sym (c .before .is-slot-colour .ensures) ∙ not-true _ (c .if1 .taken))
 
 add-code : tie.Need-add-code
 add-code c = search needs
@@ -44,7 +44,7 @@ is-slot-result-requires c κs = tt
 returns-2 : tie.Need-returns-2
 returns-2 c =
     let p = c .before .before .before .before .before .before .before .before in
-    result-bad (p .args .line .now) (p .args .round) (p .pre .0) (p .pre .1) (p .pre .2) (c .before .before .capital .result) (c .before .before .capital .ensures) (sym (c .before .before .before .before .before .is-slot-colour .ensures) ∙ not-false _ (c .before .before .before .before .if1 .left)) (sym (c .before .is-slot-result .ensures) ∙ not-true _ (c .if2 .taken))
+    result-bad (p .args .line .now) (p .args .round) (p .pre .0) (p .pre .2) (c .before .before .capital .result) (c .before .before .capital .ensures) (sym (c .before .before .before .before .before .is-slot-colour .ensures) ∙ not-false _ (c .before .before .before .before .if1 .left)) (sym (c .before .is-slot-result .ensures) ∙ not-true _ (c .if2 .taken))
 
 shared-slice-read-number-of : tie.Need-shared-slice-read-number-of
 shared-slice-read-number-of c = search needs
@@ -81,7 +81,7 @@ returns-3 c =
     let q = c .before .before in
     let p = q .before .before .before .before .before .before .before .before .before .before .before .before .before in
     let n-is = is-bad (numberOf (idBytes (p .args .line .now) (p .args .round))) (q .number-of .result) (q .number-of .ensures) (c .before .match .keys2) (c .match2 .keys2) in
-    id-bad (p .args .line .now) (p .args .round) (p .pre .0) (p .pre .1) (p .pre .2) (q .before .before .before .before .before .before .before .capital .result) (q .before .before .before .before .before .before .before .capital .ensures) (sym (q .before .before .before .before .before .before .before .before .before .before .is-slot-colour .ensures) ∙ not-false _ (q .before .before .before .before .before .before .before .before .before .if1 .left)) (sym (q .before .before .before .before .before .before .is-slot-result .ensures) ∙ not-false _ (q .before .before .before .before .before .if2 .left)) n-is
+    id-bad (p .args .line .now) (p .args .round) (p .pre .0) (p .pre .2) (q .before .before .before .before .before .before .before .capital .result) (q .before .before .before .before .before .before .before .capital .ensures) (sym (q .before .before .before .before .before .before .before .before .before .before .is-slot-colour .ensures) ∙ not-false _ (q .before .before .before .before .before .before .before .before .before .if1 .left)) (sym (q .before .before .before .before .before .before .is-slot-result .ensures) ∙ not-false _ (q .before .before .before .before .before .if2 .left)) n-is
 
 is-used-requires : tie.Need-is-used-requires
 is-used-requires c κs = tt
@@ -91,7 +91,7 @@ returns-4 c =
     let q = c .before .before .before .before .before in
     let p = q .before .before .before .before .before .before .before .before .before .before .before .before .before in
     let n-is = is-blank (numberOf (idBytes (p .args .line .now) (p .args .round))) (sym (q .number-of .ensures) ∙ ap numberSays (c .before .before .enum-told .given .1)) in
-    wholly-blank (p .args .line .now) (p .args .round) (p .pre .0) (p .pre .1) (p .pre .2) (q .before .before .before .before .before .before .before .capital .result) (q .before .before .before .before .before .before .before .capital .ensures) (sym (q .before .before .before .before .before .before .before .before .before .before .is-slot-colour .ensures) ∙ not-false _ (q .before .before .before .before .before .before .before .before .before .if1 .left)) (sym (q .before .before .before .before .before .before .is-slot-result .ensures) ∙ not-false _ (q .before .before .before .before .before .if2 .left)) n-is (c .before .is-used .result) (c .before .is-used .ensures) (not-true _ (c .if3 .taken))
+    wholly-blank (p .args .line .now) (p .args .round) (p .pre .0) (p .pre .2) (q .before .before .before .before .before .before .before .capital .result) (q .before .before .before .before .before .before .before .capital .ensures) (sym (q .before .before .before .before .before .before .before .before .before .before .is-slot-colour .ensures) ∙ not-false _ (q .before .before .before .before .before .before .before .before .before .if1 .left)) (sym (q .before .before .before .before .before .before .is-slot-result .ensures) ∙ not-false _ (q .before .before .before .before .before .if2 .left)) n-is (c .before .is-used .result) (c .before .is-used .ensures) (not-true _ (c .if3 .taken))
 
 bye-of-requires : tie.Need-bye-of-requires
 bye-of-requires c κs = tt
@@ -101,7 +101,7 @@ returns-5 c =
     let q = c .before .before .before .before .before .before in
     let p = q .before .before .before .before .before .before .before .before .before .before .before .before .before in
     let n-is = is-blank (numberOf (idBytes (p .args .line .now) (p .args .round))) (sym (q .number-of .ensures) ∙ ap numberSays (c .before .before .before .enum-told .given .1)) in
-    c .bye-of .ensures ∙ id-blank (p .args .line .now) (p .args .round) (p .pre .0) (p .pre .1) (p .pre .2) (q .before .before .before .before .before .before .before .capital .result) (q .before .before .before .before .before .before .before .capital .ensures) (sym (q .before .before .before .before .before .before .before .before .before .before .is-slot-colour .ensures) ∙ not-false _ (q .before .before .before .before .before .before .before .before .before .if1 .left)) (sym (q .before .before .before .before .before .before .is-slot-result .ensures) ∙ not-false _ (q .before .before .before .before .before .if2 .left)) n-is (c .before .before .is-used .result) (c .before .before .is-used .ensures) (not-false _ (c .before .if3 .left))
+    c .bye-of .ensures ∙ id-blank (p .args .line .now) (p .args .round) (p .pre .0) (p .pre .2) (q .before .before .before .before .before .before .before .capital .result) (q .before .before .before .before .before .before .before .capital .ensures) (sym (q .before .before .before .before .before .before .before .before .before .before .is-slot-colour .ensures) ∙ not-false _ (q .before .before .before .before .before .before .before .before .before .if1 .left)) (sym (q .before .before .before .before .before .before .is-slot-result .ensures) ∙ not-false _ (q .before .before .before .before .before .if2 .left)) n-is (c .before .before .is-used .result) (c .before .before .is-used .ensures) (not-false _ (c .before .if3 .left))
 
 bye-of-requires-2 : tie.Need-bye-of-requires-2
 bye-of-requires-2 c κs = tt
@@ -111,14 +111,14 @@ returns-6 c =
     let q = c .before .before .before .before .before in
     let p = q .before .before .before .before .before .before .before .before .before .before .before .before .before in
     let n-is = is-value (numberOf (idBytes (p .args .line .now) (p .args .round))) (c .before .before .before .n .given .0 .0) (sym (q .number-of .ensures) ∙ ap numberSays (c .before .before .before .n .given .1)) in
-    c .bye-of2 .ensures ∙ id-zero (p .args .line .now) (p .args .round) (p .pre .0) (p .pre .1) (p .pre .2) (q .before .before .before .before .before .before .before .capital .result) (q .before .before .before .before .before .before .before .capital .ensures) (sym (q .before .before .before .before .before .before .before .before .before .before .is-slot-colour .ensures) ∙ not-false _ (q .before .before .before .before .before .before .before .before .before .if1 .left)) (sym (q .before .before .before .before .before .before .is-slot-result .ensures) ∙ not-false _ (q .before .before .before .before .before .if2 .left)) (c .before .before .before .n .given .0 .0) n-is (c .before .if4 .taken)
+    c .bye-of2 .ensures ∙ id-zero (p .args .line .now) (p .args .round) (p .pre .0) (p .pre .2) (q .before .before .before .before .before .before .before .capital .result) (q .before .before .before .before .before .before .before .capital .ensures) (sym (q .before .before .before .before .before .before .before .before .before .before .is-slot-colour .ensures) ∙ not-false _ (q .before .before .before .before .before .before .before .before .before .if1 .left)) (sym (q .before .before .before .before .before .before .is-slot-result .ensures) ∙ not-false _ (q .before .before .before .before .before .if2 .left)) (c .before .before .before .n .given .0 .0) n-is (c .before .if4 .taken)
 
 returns-7 : tie.Need-returns-7
 returns-7 c =
     let q = c .before .before .before .before in
     let p = q .before .before .before .before .before .before .before .before .before .before .before .before .before in
     let n-is = is-value (numberOf (idBytes (p .args .line .now) (p .args .round))) (c .before .before .n .given .0 .0) (sym (q .number-of .ensures) ∙ ap numberSays (c .before .before .n .given .1)) in
-    id-other (p .args .line .now) (p .args .round) (p .pre .0) (p .pre .1) (p .pre .2) (q .before .before .before .before .before .before .before .capital .result) (q .before .before .before .before .before .before .before .capital .ensures) (sym (q .before .before .before .before .before .before .before .before .before .before .is-slot-colour .ensures) ∙ not-false _ (q .before .before .before .before .before .before .before .before .before .if1 .left)) (sym (q .before .before .before .before .before .before .is-slot-result .ensures) ∙ not-false _ (q .before .before .before .before .before .if2 .left)) (c .before .before .n .given .0 .0) n-is (c .if4 .left)
+    id-other (p .args .line .now) (p .args .round) (p .pre .0) (p .pre .2) (q .before .before .before .before .before .before .before .capital .result) (q .before .before .before .before .before .before .before .capital .ensures) (sym (q .before .before .before .before .before .before .before .before .before .before .is-slot-colour .ensures) ∙ not-false _ (q .before .before .before .before .before .before .before .before .before .if1 .left)) (sym (q .before .before .before .before .before .before .is-slot-result .ensures) ∙ not-false _ (q .before .before .before .before .before .if2 .left)) (c .before .before .n .given .0 .0) n-is (c .if4 .left)
 
 pub slot-of-spec : {M : Type 1} → statement M
 slot-of-spec =
