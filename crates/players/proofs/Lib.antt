@@ -1,3 +1,2 @@
-pub mod Making
 pub mod Cells
 pub mod Steps

@@ -1,12 +1,10 @@
-// A 001 line: what is stored of its rounds, and its player in the tables and in the index of the start numbers. Promised: what each lent cell holds
+// A 001 line: its player in the tables and in the index of the start numbers. Promised: what each lent cell holds
 // afterwards, and that the step is join's.
 ghost use mathlib.Core.Path.{_≡_};
-ghost use mathlib.Core.Bool.{false};
 ghost use mathlib.Core.List.{List};
 ghost use Prim.Native.Nat.{ℕ, _+_, _<_, _≤_};
-ghost use lib.ListN.{getD};
 ghost use Rattle.types.specs.declared.Acceleration as lent;
-ghost use Rattle.law.specs.Sizes.{mostPlayers, mostRounds};
+ghost use Rattle.law.specs.Sizes.{mostPlayers};
 ghost use Rattle.law.specs.Players.{PlayerLine};
 ghost use Rattle.law.proofs.RecordsRead.{playerOf};
 ghost use Rattle.join.specs.Store.{state, storePlayer, countPlayer, stepPlayer};
@@ -14,7 +12,7 @@ ghost use Rattle.rows.specs.Rows.{theRow};
 ghost use Rattle.tables.specs.Lent.{nine};
 ghost use Rattle.checks.specs.Laws.{Indexed};
 ghost use Rattle.steps.specs.Counts.{asCount, went};
-ghost use Rattle.players.specs.Stored.{rawId, rawLetter, LongEight};
+ghost use Rattle.players.specs.Stored.{LongEight};
 use checks::Placed;
 use checks::START_CELLS;
 use rows::Row;
@@ -22,60 +20,7 @@ use steps::Counts;
 use steps::Stepped;
 use types::LineNumber;
 use types::MOST_PLAYERS;
-use types::MOST_ROUNDS;
 use types::Place;
-
-// What is stored of an id, and of a colour or result: 0 where the round is wholly blank.
-fn id_stored(id: u32, used: bool) -> u32
-    ensures { λ r. ⌜ r ≡ rawId id used ⌝ }
-{
-    if used {
-        return id;
-    }
-    0
-}
-
-fn letter_stored(id: u32, letter: u8, used: bool, other: u8) -> u8
-    ensures { λ r. ⌜ r ≡ rawLetter other id letter used ⌝ }
-{
-    if !used {
-        return 0;
-    }
-    if (id != 0) | (letter != b' ') {
-        return letter;
-    }
-    other
-}
-
-// The same of each round.
-fn ids_stored(ids: [u32; MOST_ROUNDS], used: [bool; MOST_ROUNDS]) -> [u32; MOST_ROUNDS]
-    ensures { λ r. ⌜ ((j : ℕ) → j < mostRounds → getD r j 0 ≡ rawId (getD ids j 0) (getD used j false)) ⌝ }
-{
-    let mut stored = [0; MOST_ROUNDS];
-    let mut j = 0;
-    while j < MOST_ROUNDS {
-        stored[j] = id_stored(ids[j], used[j]);
-        j += 1;
-    }
-    stored
-}
-
-fn letters_stored(
-    ids: [u32; MOST_ROUNDS],
-    letters: [u8; MOST_ROUNDS],
-    used: [bool; MOST_ROUNDS],
-    other: u8,
-) -> [u8; MOST_ROUNDS]
-    ensures { λ r. ⌜ ((j : ℕ) → j < mostRounds → getD r j 0 ≡ rawLetter other (getD ids j 0) (getD letters j 0) (getD used j false)) ⌝ }
-{
-    let mut stored = [0; MOST_ROUNDS];
-    let mut j = 0;
-    while j < MOST_ROUNDS {
-        stored[j] = letter_stored(ids[j], letters[j], used[j], other);
-        j += 1;
-    }
-    stored
-}
 
 // A player at a place, from a line of the file.
 fn store_player(
@@ -101,12 +46,11 @@ fn store_player(
     let columns = row.kept;
     tables::store_kept(kept, place, columns);
     let ids = row.ids;
-    let used = row.used;
-    tables::store_numbers(opponents, place, ids_stored(ids, used));
+    tables::store_numbers(opponents, place, ids);
     let letters = row.colours;
-    tables::store_letters(colours, place, letters_stored(ids, letters, used, b'-'));
+    tables::store_letters(colours, place, letters);
     let codes = row.results;
-    tables::store_letters(results, place, letters_stored(ids, codes, used, b'Z'));
+    tables::store_letters(results, place, codes);
     tables::store_line(lines, place, line);
 }
 

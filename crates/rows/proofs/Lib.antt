@@ -1,3 +1,4 @@
 pub mod PlayerRounds
+pub mod Reach
 pub mod PlayerLines
 pub mod ShortLines

@@ -80,11 +80,11 @@ module _ (row : List ℕ) where
 
               pub row-good : slots .good ≡ true
                   → RowSays (playerOf row)
-                  (record { good = true; start = record { 0 = start }; rank = record { 0 = rank }; points = points; kept = kept; ids = slots .ids; colours = slots .colours; results = slots .results; used = slots .used })
+                  (record { good = true; start = record { 0 = start }; rank = record { 0 = rank }; points = points; kept = kept; ids = slots .ids; colours = slots .colours; results = slots .results })
               unfolding theRow theSlots
               row-good g =
                   let l = some-slots (slotsOf row) slots said g in
                   row-some (playerOf row) _ (player-by true true (some start) (some points) (some rank) (some (l .0)) v k-is s p r (l .1 .0))
                   (ap₂ (λ (m : List ℕ) (x : Slots).
-                  record { good = true; start = record { 0 = start }; rank = record { 0 = rank }; points = points; kept = m; ids = x .ids; colours = x .colours; results = x .results; used = x .used })
+                  record { good = true; start = record { 0 = start }; rank = record { 0 = rank }; points = points; kept = m; ids = x .ids; colours = x .colours; results = x .results })
                   kept-is (l .1 .1))

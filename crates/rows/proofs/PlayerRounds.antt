@@ -1,30 +1,55 @@
 -- The rounds of a 001 line: a round's columns, the rounds one after the other, and the columns between them. Assumes nothing.
-use mathlib.Core.Path.{_≡_, refl, sym, ap, ap₂, _∙_}
+use mathlib.Core.Path.{_≡_, refl, sym, ap, ap₂, subst, _∙_}
 use mathlib.Core.Bool.{Bool, true, false, _&&_, not}
 use mathlib.Core.Option.{Option, none, some}
-use mathlib.Core.List.{List, [], _∷_, _++_, map, append-nil}
-use Prim.Native.Nat.{ℕ, suc, _+_, _*_, _-_, _≤_, _<_}
+use mathlib.Core.List.{List, [], _∷_, _++_, map, map-map}
+use Prim.Native.Nat.{ℕ, zero, suc, _+_, _*_, _-_, _≤_, _<_}
+use Prim.Native.Char.{code}
 use native.Mathlib.Numerals.{add-one}
 use native.Mathlib.Omega.{arith}
 use lib.ListN.{length, getD, set, replicate, length-map, length-append}
 use lib.Seq.{set-at, append-snoc}
+use borrow.Author.Tests.{ne-eqb}
 use Rattle.kit.specs.Lists.{all, among, conj, from, flat}
 use Rattle.kit.specs.Decides.{to, when, cons, each}
 use Rattle.kit.proofs.Lists.{map-append}
 use Rattle.law.specs.Columns.{blank, isBlank, cells, col, part, column, elseBlank}
 use Rattle.law.specs.Players.{Slot, idField, entryColourColumn, resultColumn, roundFields, slotColours, slotResults, capital}
+use Rattle.law.specs.Tournament.{Entry, blankAs, normal}
+use Rattle.law.specs.Entries.{noEntry}
 use Rattle.law.proofs.FieldsRead as law
 use Rattle.law.proofs.RecordsRead.{isUsed, slotOf, slotsOf}
+use Rattle.join.specs.Store.{rawCell}
+use Rattle.fields.specs.Said.{Said, says, refuses, orBadField}
 use Rattle.fields.proofs.Columns.{getD-any, cells-cons, cells-one, cells-four}
 use Rattle.fields.proofs.Turns.{and-true}
 use Rattle.fields.proofs.Fours.{number-not-blank}
 use Rattle.fields.proofs.Cases.{standing, is-standing}
 use Rattle.kept_columns.proofs.KeptColumns.{gap}
 use Rattle.rows.specs.declared.Slots.{Slots}
-use Rattle.rows.specs.Rows.{noSlots, theSlots, SlotsSay, idsOf, coloursOf, resultsOf, usedOf}
+use Rattle.rows.specs.Rows.{bye, noSlots, theSlots, SlotsSay, idsOf, coloursOf, resultsOf}
 
-abbrev slotFrom : ℕ → ℕ → ℕ → Bool → Slot
+abbrev pub slotFrom : ℕ → ℕ → ℕ → Bool → Slot
 slotFrom i c r u = record { id = i; colour = c; result = r; used = u }
+
+-- a wholly blank one
+abbrev pub noSlot : Slot
+noSlot = slotFrom 0 blank blank false
+
+-- ---- what is stored of a round
+raw-none : (i x y : ℕ) (u : Bool) → u ≡ false → noEntry ≡ rawCell (slotFrom i x y u)
+raw-none i x y u e = rw e refl
+
+raw-bye : (i x y : ℕ) (u : Bool) → i ≡ 0 → u ≡ true → normal (bye x y) ≡ rawCell (slotFrom i x y u)
+raw-bye i x y u h e = rw (h, e) refl
+
+raw-game : (i x y : ℕ) (u : Bool) → (i ≡ 0 → ⊥) → u ≡ true → record { id = i; colour = x; result = y } ≡ rawCell (slotFrom i x y u)
+unfolding normal
+raw-game i x y u h e = rw (e, ne-eqb i 0 h) refl
+
+pub bye-is : (x y : ℕ) → record { id = 0; colour = blankAs (code "-") x; result = blankAs (code "Z") y } ≡ normal (bye x y)
+unfolding normal
+bye-is x y = refl
 
 -- ---- the columns of round r
 module _ (row : List ℕ) (r : ℕ) (h : 1 ≤ r) where
@@ -59,7 +84,7 @@ two-tests a b = ap (λ (v : Bool). a && v) (sym (and-true b))
 abbrev pub idBytes : List ℕ → ℕ → List ℕ
 idBytes row r = getD row (81 + 10 * r) 0 ∷ getD row (81 + 10 * r + 1) 0 ∷ getD row (81 + 10 * r + 2) 0 ∷ getD row (81 + 10 * r + 3) 0 ∷ []
 
-module _ (row : List ℕ) (r : ℕ) (h : 1 ≤ r) (h-most : r ≤ 20) (long : 289 ≤ length row) where
+module _ (row : List ℕ) (r : ℕ) (h : 1 ≤ r) (long : 89 + 10 * r ≤ length row) where
   there : (k : ℕ) → k ≤ 7 → getD row (81 + 10 * r + k) blank ≡ getD row (81 + 10 * r + k) 0
   there k q = getD-any row (81 + 10 * r + k) blank 0 (omega arith)
 
@@ -72,15 +97,55 @@ module _ (row : List ℕ) (r : ℕ) (h : 1 ≤ r) (h-most : r ≤ 20) (long : 28
       slot-by row r h (getD row (81 + 10 * r + 5) 0) y c d o (sym (there 5 (omega arith))) (y-is ∙ ap capital (sym (there 7 (omega arith)))) c-is d-is (ap (λ (l : List ℕ). law.numberOr0 (law.numberOf l)) id-bytes ∙ o-is)
 
   -- an id is a byte that is not blank; without one the colour and the result say it
-  pub used-id : (n : ℕ) → law.numberOf (idBytes row r) ≡ law.value n → isUsed row r ≡ true
+  used-id : (n : ℕ) → law.numberOf (idBytes row r) ≡ law.value n → isUsed row r ≡ true
   used-id n e = used-by row r h false _ _ (ap (all isBlank) id-bytes ∙ number-not-blank (idBytes row r) n e) refl refl
 
-  pub used-else : law.numberOf (idBytes row r) ≡ law.none-there → not (all isBlank (getD row (81 + 10 * r + 5) 0 ∷ getD row (81 + 10 * r + 7) 0 ∷ [])) ≡ isUsed row r
+  used-else : law.numberOf (idBytes row r) ≡ law.none-there → isUsed row r ≡ not (all isBlank (getD row (81 + 10 * r + 5) 0 ∷ getD row (81 + 10 * r + 7) 0 ∷ []))
   used-else e =
-      sym (used-by row r h true (isBlank (getD row (81 + 10 * r + 5) 0)) (isBlank (getD row (81 + 10 * r + 7) 0)) (ap (all isBlank) id-bytes ∙ law.blank-sound (idBytes row r) e)
-      (gap row (81 + 10 * r + 5) (omega arith)) (gap row (81 + 10 * r + 7) (omega arith)))
+      used-by row r h true (isBlank (getD row (81 + 10 * r + 5) 0)) (isBlank (getD row (81 + 10 * r + 7) 0)) (ap (all isBlank) id-bytes ∙ law.blank-sound (idBytes row r) e)
+      (gap row (81 + 10 * r + 5) (omega arith)) (gap row (81 + 10 * r + 7) (omega arith))
+
+  -- at each answer: what was read so far
+  abbrev stored : Option Slot → Said Entry
+  stored o = orBadField (to rawCell o)
+
+  pub colour-bad : among (getD row (81 + 10 * r + 5) 0) slotColours ≡ false → _≡_ {A = Said Entry} (refuses 7) (stored (slotOf row r))
+  colour-bad e = sym (ap stored (slot-read _ false _ _ refl e refl refl))
+
+  module _ (y : ℕ) (y-is : y ≡ capital (getD row (81 + 10 * r + 7) 0)) (c-is : among (getD row (81 + 10 * r + 5) 0) slotColours ≡ true) where
+    pub result-bad : among y slotResults ≡ false → _≡_ {A = Said Entry} (refuses 7) (stored (slotOf row r))
+    result-bad e = sym (ap stored (slot-read y true false _ y-is c-is e refl))
+
+    module _ (d-is : among y slotResults ≡ true) where
+      by-id : (n : law.Number) → law.numberOf (idBytes row r) ≡ n → stored (slotOf row r) ≡ stored (to (λ i. slotFrom i (getD row (81 + 10 * r + 5) 0) y (isUsed row r)) (law.numberOr0 n))
+      by-id n e = ap stored (slot-read y true true (law.numberOr0 n) y-is c-is d-is (ap law.numberOr0 e))
+
+      pub id-bad : law.numberOf (idBytes row r) ≡ law.bad → _≡_ {A = Said Entry} (refuses 7) (stored (slotOf row r))
+      id-bad e = sym (by-id law.bad e)
+
+      module _ (e : law.numberOf (idBytes row r) ≡ law.none-there) (u : Bool) (u-is : u ≡ not (all isBlank (getD row (81 + 10 * r + 5) 0 ∷ getD row (81 + 10 * r + 7) 0 ∷ []))) where
+        pub wholly-blank : u ≡ false → says noEntry ≡ stored (slotOf row r)
+        wholly-blank q = ap says (raw-none 0 (getD row (81 + 10 * r + 5) 0) y (isUsed row r) (used-else e ∙ sym u-is ∙ q)) ∙ sym (by-id law.none-there e)
+
+        pub id-blank : u ≡ true → says (normal (bye (getD row (81 + 10 * r + 5) 0) y)) ≡ stored (slotOf row r)
+        id-blank q = ap says (raw-bye 0 (getD row (81 + 10 * r + 5) 0) y (isUsed row r) refl (used-else e ∙ sym u-is ∙ q)) ∙ sym (by-id law.none-there e)
+
+      module _ (id : ℕ) (e : law.numberOf (idBytes row r) ≡ law.value id) where
+        pub id-zero : id ≡ 0 → says (normal (bye (getD row (81 + 10 * r + 5) 0) y)) ≡ stored (slotOf row r)
+        id-zero z = ap says (raw-bye id (getD row (81 + 10 * r + 5) 0) y (isUsed row r) z (used-id id e)) ∙ sym (by-id (law.value id) e)
+
+        pub id-other : (id ≡ 0 → ⊥) → says (record { id = id; colour = getD row (81 + 10 * r + 5) 0; result = y }) ≡ stored (slotOf row r)
+        id-other h = ap says (raw-game id (getD row (81 + 10 * r + 5) 0) y (isUsed row r) h (used-id id e)) ∙ sym (by-id (law.value id) e)
 
 -- ---- the rounds, of which the first i are read
+to-some : {A B : Type 0} (g : A → B) (o : Option A) (b : B) → to g o ≡ some b → (a : A) × ((o ≡ some a) × (g a ≡ b))
+to-some g (some a) b e = let u : g a ≡ b = cc in (a, (refl, u))
+to-some g none b e = absurd (let z : _≡_ {A = ℕ} 0 1 = cc in omega arith)
+
+to-none : {A B : Type 0} (g : A → B) (o : Option A) → to g o ≡ none → o ≡ none
+to-none g none e = refl
+to-none g (some a) e = absurd (let z : _≡_ {A = ℕ} 0 1 = cc in omega arith)
+
 set-next : {A : Type 0} (g : Slot → A) (z : A) (slots : List Slot) (s : Slot) (i n : ℕ) → length slots ≡ i → i < n
     → set (map g slots ++ replicate (n - i) z) i (g s) ≡ map g (slots ++ (s ∷ [])) ++ replicate (n - (i + 1)) z
 set-next {A} g z slots s i n l h =
@@ -90,6 +155,10 @@ set-next {A} g z slots s i n l h =
     ∙ sym (append-snoc (map g slots) (g s) (replicate (n - (i + 1)) z))
     ∙ ap (λ (k : List A). k ++ replicate (n - (i + 1)) z) (sym (map-append g slots (s ∷ [])))
 
+map-replicate : {A B : Type 0} (g : A → B) (n : ℕ) (a : A) → map g (replicate n a) ≡ replicate n (g a)
+map-replicate g zero a = refl
+map-replicate {B = B} g (suc n) a = ap (λ (l : List B). g a ∷ l) (map-replicate g n a)
+
 abbrev asSlots : Option (List Slot) → Slots
 asSlots o = standing (λ (x : Slots). x .good) noSlots theSlots o
 
@@ -97,59 +166,70 @@ slots-are : (o : Option (List Slot)) (r : Slots) → r ≡ asSlots o → SlotsSa
 unfolding noSlots theSlots
 slots-are o r e = is-standing (λ (x : Slots). x .good) noSlots theSlots refl (λ _. refl) o r e
 
-pub record Read (row : List ℕ) (i : ℕ) (ids colours results : List ℕ) (used : List Bool) : Type 0 where
+pub record Read (row : List ℕ) (i : ℕ) (ids colours results : List ℕ) : Type 0 where
   pub slots : List Slot
   pub long : length slots ≡ i
   pub rest : slotsOf row ≡ to (λ (l : List Slot). slots ++ l) (each (slotOf row) (from (i + 1) (20 - i)))
-  pub ids-are : ids ≡ map (λ (s : Slot). s .id) slots ++ replicate (20 - i) 0
-  pub colours-are : colours ≡ map (λ (s : Slot). s .colour) slots ++ replicate (20 - i) 0
-  pub results-are : results ≡ map (λ (s : Slot). s .result) slots ++ replicate (20 - i) 0
-  pub used-are : used ≡ map (λ (s : Slot). s .used) slots ++ replicate (20 - i) false
+  pub ids-are : ids ≡ map (λ (s : Slot). rawCell s .id) slots ++ replicate (20 - i) 0
+  pub colours-are : colours ≡ map (λ (s : Slot). rawCell s .colour) slots ++ replicate (20 - i) 0
+  pub results-are : results ≡ map (λ (s : Slot). rawCell s .result) slots ++ replicate (20 - i) 0
 
-pub none-read : (row : List ℕ) → Read row 0 (replicate 20 0) (replicate 20 0) (replicate 20 0) (replicate 20 false)
-none-read row = record { slots = []; long = refl; rest = go (slotsOf row); ids-are = refl; colours-are = refl; results-are = refl; used-are = refl }
+pub none-read : (row : List ℕ) → Read row 0 (replicate 20 0) (replicate 20 0) (replicate 20 0)
+none-read row = record { slots = []; long = refl; rest = go (slotsOf row); ids-are = refl; colours-are = refl; results-are = refl }
   where
     go : (o : Option (List Slot)) → o ≡ to (λ (l : List Slot). l) o
     go none = refl
     go (some l) = refl
 
-module _ (row : List ℕ) (i : ℕ) (ids colours results : List ℕ) (used : List Bool) (f : Read row i ids colours results used) where
+module _ (row : List ℕ) (i : ℕ) (ids colours results : List ℕ) (f : Read row i ids colours results) where
   module _ (h : i < 20) where
     next : each (slotOf row) (from (i + 1) (20 - i)) ≡ cons (slotOf row (i + 1)) (each (slotOf row) (from (i + 1 + 1) (20 - (i + 1))))
     next = let e : 20 - i ≡ suc (20 - (i + 1)) = omega arith in ap (λ (k : ℕ). each (slotOf row) (from (i + 1) k)) e
 
-    pub round-bad : slotOf row (i + 1) ≡ none → {r : Slots} → r ≡ noSlots → SlotsSay (slotsOf row) r
-    round-bad e {r} n =
+    pub round-bad : to rawCell (slotOf row (i + 1)) ≡ none → {r : Slots} → r ≡ noSlots → SlotsSay (slotsOf row) r
+    round-bad b {r} n =
+        let e : slotOf row (i + 1) ≡ none = to-none rawCell (slotOf row (i + 1)) b in
         slots-are (slotsOf row) r
         (n ∙ ap asSlots (sym (f .rest ∙ ap (to (λ (l : List Slot). f .slots ++ l)) (next ∙ ap (λ (o : Option Slot). cons o (each (slotOf row) (from (i + 1 + 1) (20 - (i + 1))))) e))))
 
-    pub round-more : (s : Slot) → slotOf row (i + 1) ≡ some s → Read row (i + 1) (set ids i (s .id)) (set colours i (s .colour)) (set results i (s .result)) (set used i (s .used))
-    round-more s e =
+    read-more : (s : Slot) → slotOf row (i + 1) ≡ some s → Read row (i + 1) (set ids i (rawCell s .id)) (set colours i (rawCell s .colour)) (set results i (rawCell s .result))
+    read-more s e =
         record {
           slots = f .slots ++ (s ∷ []);
           long = length-append (f .slots) (s ∷ []) ∙ ap (λ (k : ℕ). k + 1) (f .long);
           rest = f .rest ∙ ap (to (λ (l : List Slot). f .slots ++ l)) (next ∙ ap (λ (o : Option Slot). cons o (each (slotOf row) (from (i + 1 + 1) (20 - (i + 1))))) e)
               ∙ go (each (slotOf row) (from (i + 1 + 1) (20 - (i + 1))));
-          ids-are = ap (λ (l : List ℕ). set l i (s .id)) (f .ids-are) ∙ set-next (λ (s : Slot). s .id) 0 (f .slots) s i 20 (f .long) h;
-          colours-are = ap (λ (l : List ℕ). set l i (s .colour)) (f .colours-are) ∙ set-next (λ (s : Slot). s .colour) 0 (f .slots) s i 20 (f .long) h;
-          results-are = ap (λ (l : List ℕ). set l i (s .result)) (f .results-are) ∙ set-next (λ (s : Slot). s .result) 0 (f .slots) s i 20 (f .long) h;
-          used-are = ap (λ (l : List Bool). set l i (s .used)) (f .used-are) ∙ set-next (λ (s : Slot). s .used) false (f .slots) s i 20 (f .long) h;
+          ids-are = ap (λ (l : List ℕ). set l i (rawCell s .id)) (f .ids-are) ∙ set-next (λ (s : Slot). rawCell s .id) 0 (f .slots) s i 20 (f .long) h;
+          colours-are = ap (λ (l : List ℕ). set l i (rawCell s .colour)) (f .colours-are) ∙ set-next (λ (s : Slot). rawCell s .colour) 0 (f .slots) s i 20 (f .long) h;
+          results-are = ap (λ (l : List ℕ). set l i (rawCell s .result)) (f .results-are) ∙ set-next (λ (s : Slot). rawCell s .result) 0 (f .slots) s i 20 (f .long) h;
         }
       where
         go : (o : Option (List Slot)) → to (λ (l : List Slot). f .slots ++ l) (cons (some s) o) ≡ to (λ (l : List Slot). (f .slots ++ (s ∷ [])) ++ l) o
         go none = refl
         go (some l) = ap some (sym (append-snoc (f .slots) s l))
 
-  pub all-read : i ≡ 20 → SlotsSay (slotsOf row) (record { good = true; ids = ids; colours = colours; results = results; used = used })
-  unfolding theSlots idsOf coloursOf resultsOf usedOf
-  all-read e =
-      let n : 20 - i ≡ 0 = omega arith in
-      let whole : slotsOf row ≡ some (f .slots) = f .rest ∙ ap (λ (k : ℕ). to (λ (l : List Slot). f .slots ++ l) (each (slotOf row) (from (i + 1) k))) n ∙ ap some (append-nil (f .slots)) in
-      let a : ids ≡ map (λ (s : Slot). s .id) (f .slots) = f .ids-are ∙ ap (λ (k : ℕ). map (λ (s : Slot). s .id) (f .slots) ++ replicate k 0) n ∙ append-nil (map (λ (s : Slot). s .id) (f .slots)) in
-      let b : colours ≡ map (λ (s : Slot). s .colour) (f .slots) = f .colours-are ∙ ap (λ (k : ℕ). map (λ (s : Slot). s .colour) (f .slots) ++ replicate k 0) n ∙ append-nil (map (λ (s : Slot). s .colour) (f .slots)) in
-      let c : results ≡ map (λ (s : Slot). s .result) (f .slots) = f .results-are ∙ ap (λ (k : ℕ). map (λ (s : Slot). s .result) (f .slots) ++ replicate k 0) n ∙ append-nil (map (λ (s : Slot). s .result) (f .slots)) in
-      let d : used ≡ map (λ (s : Slot). s .used) (f .slots) = f .used-are ∙ ap (λ (k : ℕ). map (λ (s : Slot). s .used) (f .slots) ++ replicate k false) n ∙ append-nil (map (λ (s : Slot). s .used) (f .slots)) in
-      slots-are (slotsOf row) (record { good = true; ids = ids; colours = colours; results = results; used = used }) ((λ k. record { good = true; ids = a k; colours = b k; results = c k; used = d k }) ∙ ap asSlots (sym whole))
+    pub round-more : (c : Entry) → to rawCell (slotOf row (i + 1)) ≡ some c → Read row (i + 1) (set ids i (c .id)) (set colours i (c .colour)) (set results i (c .result))
+    round-more c e =
+        let s = to-some rawCell (slotOf row (i + 1)) c e in
+        subst (λ (x : Entry). Read row (i + 1) (set ids i (x .id)) (set colours i (x .colour)) (set results i (x .result))) (s .1 .1) (read-more (s .0) (s .1 .0))
+
+  column-read : (g : Entry → ℕ) → g noEntry ≡ 0 → (l : List ℕ) → l ≡ map (λ (s : Slot). g (rawCell s)) (f .slots) ++ replicate (20 - i) 0
+      → l ≡ map g (map rawCell (f .slots ++ replicate (20 - i) noSlot))
+  column-read g z l l-is =
+      l-is
+      ∙ ap (λ (k : List ℕ). map (λ (s : Slot). g (rawCell s)) (f .slots) ++ k) (ap (replicate (20 - i)) (sym z) ∙ sym (map-replicate (λ (s : Slot). g (rawCell s)) (20 - i) noSlot))
+      ∙ sym (map-append (λ (s : Slot). g (rawCell s)) (f .slots) (replicate (20 - i) noSlot))
+      ∙ sym (map-map g rawCell (f .slots ++ replicate (20 - i) noSlot))
+
+  -- the others are wholly blank
+  pub all-read : each (slotOf row) (from (i + 1) (20 - i)) ≡ some (replicate (20 - i) noSlot) → SlotsSay (slotsOf row) (record { good = true; ids = ids; colours = colours; results = results })
+  unfolding theSlots idsOf coloursOf resultsOf
+  all-read others =
+      let whole : slotsOf row ≡ some (f .slots ++ replicate (20 - i) noSlot) = f .rest ∙ ap (to (λ (l : List Slot). f .slots ++ l)) others in
+      let a = column-read (λ (c : Entry). c .id) refl ids (f .ids-are) in
+      let b = column-read (λ (c : Entry). c .colour) refl colours (f .colours-are) in
+      let d = column-read (λ (c : Entry). c .result) refl results (f .results-are) in
+      slots-are (slotsOf row) (record { good = true; ids = ids; colours = colours; results = results }) ((λ k. record { good = true; ids = a k; colours = b k; results = d k }) ∙ ap asSlots (sym whole))
 
 -- ---- the columns between the rounds' fields
 pub two-columns : (row : List ℕ) (i : ℕ) → all isBlank (cells row i 2) ≡ all isBlank (cells row i 1) && all isBlank (cells row (i + 1) 1)

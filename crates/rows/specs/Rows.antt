@@ -1,43 +1,58 @@
 -- What the readers of a 001 line answer: document 01's number and values for each case of their enum, and of the structs that stand in for one.
-use mathlib.Core.Bool.{Bool, true, false}
+use mathlib.Core.Path.{_≡_}
+use mathlib.Core.Bool.{true, false}
 use mathlib.Core.Option.{Option}
 use mathlib.Core.List.{List, map}
-use Prim.Native.Nat.{ℕ}
-use lib.ListN.{replicate}
+use Prim.Native.Nat.{ℕ, _+_, _*_, _≤_, _<_}
+use lib.ListN.{length, getD, replicate}
 use Rattle.law.specs.Sizes.{mostRounds}
+use Rattle.law.specs.Columns.{blank}
 use Rattle.law.specs.Players as law
+use Rattle.law.specs.Tournament.{Entry}
+use Rattle.join.specs.Store.{rawCell, rawCells}
 use Rattle.fields.specs.Said.{Said, says, refuses, Stands}
 use Rattle.rows.specs.declared.Slot.{Slot}
 use Rattle.rows.specs.declared.Slot.the-variants as slot
 use Rattle.rows.specs.declared.Slots.{Slots}
 use Rattle.rows.specs.declared.Row.{Row}
 
--- the columns up to the last round's result
+-- the columns before the rounds and those of the first n rounds; all of them
+abbrev pub roundsEnd : ℕ → ℕ
+roundsEnd n = 89 + 10 * n
+
 abbrev pub playerColumns : ℕ
 playerColumns = law.resultColumn mostRounds
 
-abbrev pub slotSays : Slot → Said law.Slot
-slotSays (slot.Read id colour result used) = says (record { id = id; colour = colour; result = result; used = used })
+-- a line has the columns of its first rounds, and those of the rounds after them are blank
+pub record Reaches (line : List ℕ) (reach : ℕ) : Type 0 where
+  pub most : reach ≤ mostRounds
+  pub long : roundsEnd reach ≤ length line
+  pub blank-on : (i : ℕ) → roundsEnd reach ≤ i → i < playerColumns → getD line i blank ≡ blank
+
+-- a round as it is stored
+abbrev pub slotSays : Slot → Said Entry
+slotSays (slot.Read id colour result) = says (record { id = id; colour = colour; result = result })
 slotSays slot.Bad = refuses 7
 
--- ---- the rounds, one list a column
-unfoldable pub idsOf : List law.Slot → List ℕ
-idsOf slots = map (λ (s : law.Slot). s .id) slots
+-- a round without an opponent, of which a byte is not blank
+abbrev pub bye : ℕ → ℕ → law.Slot
+bye colour result = record { id = 0; colour = colour; result = result; used = true }
 
-unfoldable pub coloursOf : List law.Slot → List ℕ
-coloursOf slots = map (λ (s : law.Slot). s .colour) slots
+-- ---- the rounds as they are stored, one list a column
+unfoldable pub idsOf : List Entry → List ℕ
+idsOf cells = map (λ (e : Entry). e .id) cells
 
-unfoldable pub resultsOf : List law.Slot → List ℕ
-resultsOf slots = map (λ (s : law.Slot). s .result) slots
+unfoldable pub coloursOf : List Entry → List ℕ
+coloursOf cells = map (λ (e : Entry). e .colour) cells
 
-unfoldable pub usedOf : List law.Slot → List Bool
-usedOf slots = map (λ (s : law.Slot). s .used) slots
+unfoldable pub resultsOf : List Entry → List ℕ
+resultsOf cells = map (λ (e : Entry). e .result) cells
 
 unfoldable pub noSlots : Slots
-noSlots = record { good = false; ids = replicate 20 0; colours = replicate 20 0; results = replicate 20 0; used = replicate 20 false }
+noSlots = record { good = false; ids = replicate 20 0; colours = replicate 20 0; results = replicate 20 0 }
 
 unfoldable pub theSlots : List law.Slot → Slots
-theSlots slots = record { good = true; ids = idsOf slots; colours = coloursOf slots; results = resultsOf slots; used = usedOf slots }
+theSlots slots = record { good = true; ids = idsOf (map rawCell slots); colours = coloursOf (map rawCell slots); results = resultsOf (map rawCell slots) }
 
 -- a flag in place of an enum: off is 7
 abbrev pub SlotsSay : Option (List law.Slot) → Slots → Type 0
@@ -55,7 +70,6 @@ noRow =
       ids = replicate 20 0;
       colours = replicate 20 0;
       results = replicate 20 0;
-      used = replicate 20 false;
     }
 
 unfoldable pub theRow : law.PlayerLine → Row
@@ -66,10 +80,9 @@ theRow p =
       rank = record { 0 = p .rank };
       points = p .points;
       kept = p .kept;
-      ids = idsOf (p .slots);
-      colours = coloursOf (p .slots);
-      results = resultsOf (p .slots);
-      used = usedOf (p .slots);
+      ids = idsOf (rawCells p);
+      colours = coloursOf (rawCells p);
+      results = resultsOf (rawCells p);
     }
 
 -- a flag in place of an enum: off is 7

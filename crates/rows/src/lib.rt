@@ -14,28 +14,31 @@ ghost use mathlib.Core.List.{[], _∷_, _++_};
 ghost use Prim.Native.Nat.{_+_, _-_, _≤_, _<_};
 ghost use lib.ListN.{length, replicate};
 ghost use Rattle.kit.specs.Lists.{all, among, conj, flat};
+ghost use Rattle.kit.specs.Decides.{to};
+ghost use Rattle.law.specs.Sizes.{mostRounds};
 ghost use Rattle.law.specs.Columns.{blank, isBlank, cells, elseBlank, afterCode};
 ghost use Rattle.law.specs.Players.{slotColours, slotResults, roundFields, everyRound, playerFields, capital as capitalOf};
+ghost use Rattle.law.specs.Tournament.{blankAs, normal};
 ghost use Rattle.law.proofs.RecordsRead.{slotOf, slotsOf, playerOf};
-ghost use Rattle.fields.specs.Said.{orBadField};
-ghost use Rattle.rows.specs.Rows.{playerColumns, slotSays, noSlots, SlotsSay, noRow, RowSays};
+ghost use Rattle.join.specs.Store.{rawCell};
+ghost use Rattle.fields.specs.Said.{says, orBadField};
+ghost use Rattle.rows.specs.Rows.{roundsEnd, playerColumns, Reaches, slotSays, bye, noSlots, SlotsSay, noRow, RowSays};
 
 // The columns up to the last round's result.
 const COLUMNS: usize = 89 + 10 * MOST_ROUNDS;
 
-// A round's columns on a 001 line: the id, 0 where it is blank, the colour as it stands, the result as a capital, and whether a byte of them is not blank.
+// A round's columns on a 001 line as they are stored: opponent, colour, result; zeros where no byte of them is other than blank.
 enum Slot {
-    Read(u32, u8, u8, bool),
+    Read(u32, u8, u8),
     Bad,
 }
 
-// The rounds of a 001 line, the r-th in cell r - 1; zeros where they are not good.
+// The rounds of a 001 line as they are stored, the r-th in cell r - 1; zeros where they are not good.
 struct Slots {
     good: bool,
     ids: [u32; MOST_ROUNDS],
     colours: [u8; MOST_ROUNDS],
     results: [u8; MOST_ROUNDS],
-    used: [bool; MOST_ROUNDS],
 }
 
 // A 001 line; zeros where it is not good.
@@ -48,7 +51,6 @@ pub struct Row {
     pub ids: [u32; MOST_ROUNDS],
     pub colours: [u8; MOST_ROUNDS],
     pub results: [u8; MOST_ROUNDS],
-    pub used: [bool; MOST_ROUNDS],
 }
 
 fn capital(c: u8) -> u8
@@ -90,9 +92,26 @@ fn is_used(colour: u8, code: u8) -> bool
     !((colour == b' ') & (code == b' '))
 }
 
+// A letter of a round without an opponent: other stands for a blank one.
+fn blank_as(other: u8, letter: u8) -> u8
+    ensures { λ r. ⌜ r ≡ blankAs other letter ⌝ }
+{
+    if letter == b' ' {
+        return other;
+    }
+    letter
+}
+
+// A round without an opponent, of which a byte is not blank.
+fn bye_of(colour: u8, result: u8) -> Slot
+    ensures { λ r. ⌜ slotSays r ≡ says (normal (bye colour result)) ⌝ }
+{
+    Slot::Read(0, blank_as(b'-', colour), blank_as(b'Z', result))
+}
+
 fn slot_of(line: &[u8], round: usize) -> Slot
-    requires { ⌜ (1 ≤ round) × (round ≤ 20) × (playerColumns ≤ length (now line)) ⌝ }
-    ensures { λ r. ⌜ slotSays r ≡ orBadField (slotOf (now (line .entry)) round) ⌝ }
+    requires { ⌜ (1 ≤ round) × (round ≤ mostRounds) × (roundsEnd round ≤ length (now line)) ⌝ }
+    ensures { λ r. ⌜ slotSays r ≡ orBadField (to rawCell (slotOf (now (line .entry)) round)) ⌝ }
 {
     let at = 81 + 10 * round;
     let colour = line[at + 5];
@@ -105,13 +124,19 @@ fn slot_of(line: &[u8], round: usize) -> Slot
         return Slot::Bad;
     }
     let n = fields::number_of(line[at], line[at + 1], line[at + 2], line[at + 3]);
-    let Number::Value(id) = n else {
+    let Number::Value(opponent) = n else {
         let Number::Blank = n else {
             return Slot::Bad;
         };
-        return Slot::Read(0, colour, result, is_used(colour, code));
+        if !is_used(colour, code) {
+            return Slot::Read(0, 0, 0);
+        }
+        return bye_of(colour, result);
     };
-    Slot::Read(id, colour, result, true)
+    if opponent == 0 {
+        return bye_of(colour, result);
+    }
+    Slot::Read(opponent, colour, result)
 }
 
 fn no_slots() -> Slots
@@ -122,27 +147,24 @@ fn no_slots() -> Slots
         ids: [0; MOST_ROUNDS],
         colours: [0; MOST_ROUNDS],
         results: [0; MOST_ROUNDS],
-        used: [false; MOST_ROUNDS],
     }
 }
 
-fn slots_of(line: &[u8]) -> Slots
-    requires { ⌜ playerColumns ≤ length (now line) ⌝ }
+fn slots_of(line: &[u8], reach: usize) -> Slots
+    requires { ⌜ Reaches (now line) reach ⌝ }
     ensures { λ r. ⌜ SlotsSay (slotsOf (now (line .entry))) r ⌝ }
 {
     let mut ids = [0u32; MOST_ROUNDS];
     let mut colours = [0u8; MOST_ROUNDS];
     let mut results = [0u8; MOST_ROUNDS];
-    let mut used = [false; MOST_ROUNDS];
     let mut i = 0;
-    while i < MOST_ROUNDS {
-        let Slot::Read(id, colour, result, is) = slot_of(line, i + 1) else {
+    while i < reach {
+        let Slot::Read(id, colour, result) = slot_of(line, i + 1) else {
             return no_slots();
         };
         ids[i] = id;
         colours[i] = colour;
         results[i] = result;
-        used[i] = is;
         i += 1;
     }
     Slots {
@@ -150,7 +172,6 @@ fn slots_of(line: &[u8]) -> Slots
         ids,
         colours,
         results,
-        used,
     }
 }
 
@@ -178,12 +199,12 @@ fn round_else_blank(line: &[u8], at: usize) -> bool
     blank_column(line, at + 8)
 }
 
-fn rounds_else_blank(line: &[u8]) -> bool
-    requires { ⌜ playerColumns ≤ length (now line) ⌝ }
+fn rounds_else_blank(line: &[u8], reach: usize) -> bool
+    requires { ⌜ Reaches (now line) reach ⌝ }
     ensures { λ r. ⌜ r ≡ elseBlank 90 (flat roundFields everyRound) (now (line .entry)) ⌝ }
 {
     let mut i = 0;
-    while i < MOST_ROUNDS {
+    while i < reach {
         if !round_else_blank(line, 89 + 10 * i) {
             return false;
         }
@@ -192,8 +213,8 @@ fn rounds_else_blank(line: &[u8]) -> bool
     fields::blank_from(line, COLUMNS)
 }
 
-fn player_else_blank(line: &[u8]) -> bool
-    requires { ⌜ playerColumns ≤ length (now line) ⌝ }
+fn player_else_blank(line: &[u8], reach: usize) -> bool
+    requires { ⌜ Reaches (now line) reach ⌝ }
     ensures { λ r. ⌜ r ≡ elseBlank afterCode playerFields (now (line .entry)) ⌝ }
 {
     if !blank_column(line, 3) {
@@ -208,7 +229,7 @@ fn player_else_blank(line: &[u8]) -> bool
     if !blank_column(line, 84) {
         return false;
     }
-    rounds_else_blank(line)
+    rounds_else_blank(line, reach)
 }
 
 fn no_row() -> Row
@@ -223,16 +244,15 @@ fn no_row() -> Row
         ids: [0; MOST_ROUNDS],
         colours: [0; MOST_ROUNDS],
         results: [0; MOST_ROUNDS],
-        used: [false; MOST_ROUNDS],
     }
 }
 
-// A line that has all the columns: those of its rounds and the kept ones are taken without a test.
-fn wide_player(line: &[u8]) -> Row
-    requires { ⌜ playerColumns ≤ length (now line) ⌝ }
+// A line that has the columns of all rounds that it reaches: these and the kept ones are taken without a test.
+fn wide_player(line: &[u8], reach: usize) -> Row
+    requires { ⌜ Reaches (now line) reach ⌝ }
     ensures { λ r. ⌜ RowSays (playerOf (now (line .entry))) r ⌝ }
 {
-    if !player_else_blank(line) {
+    if !player_else_blank(line, reach) {
         return no_row();
     }
     let kept = kept_columns::kept_of(line);
@@ -248,14 +268,13 @@ fn wide_player(line: &[u8]) -> Row
     let Number::Value(rank) = fields::counted_at(line, 85, MOST_RANK) else {
         return no_row();
     };
-    let slots = slots_of(line);
+    let slots = slots_of(line, reach);
     if !slots.good {
         return no_row();
     }
     let ids = slots.ids;
     let colours = slots.colours;
     let results = slots.results;
-    let used = slots.used;
     Row {
         good: true,
         start: StartNumber(start),
@@ -265,7 +284,6 @@ fn wide_player(line: &[u8]) -> Row
         ids,
         colours,
         results,
-        used,
     }
 }
 
@@ -283,12 +301,26 @@ fn widened(line: &[u8]) -> [u8; COLUMNS]
     wide
 }
 
+// How many rounds a line of n columns reaches: those of which it has a column.
+fn reach_of(n: usize) -> usize
+    ensures { λ r. ⌜ (r ≤ mostRounds) × (r < mostRounds → n ≤ roundsEnd r) ⌝ }
+{
+    if COLUMNS <= n {
+        return MOST_ROUNDS;
+    }
+    if n < 90 {
+        return 0;
+    }
+    (n - 80) / 10
+}
+
 pub fn player_of(line: &[u8]) -> Row
     ensures { λ r. ⌜ RowSays (playerOf (now (line .entry))) r ⌝ }
 {
-    if line.len() < COLUMNS {
+    let reach = reach_of(line.len());
+    if line.len() < 89 + 10 * reach {
         let wide = widened(line);
-        return wide_player(&wide);
+        return wide_player(&wide, reach);
     }
-    wide_player(line)
+    wide_player(line, reach)
 }

@@ -1,6 +1,5 @@
 -- `players::store_player` meets its contract. Assumes nothing.
 use denote.Ref.{now}
-use borrow.Author.Needs.{needs}
 use Rattle.tables.specs.Lent.{nine}
 use Rattle.players.proofs.Cells.{player-stored}
 use Rattle.players.proofs.store_player.Statement.{statement}
@@ -26,52 +25,43 @@ store-kept-requires c κs =
     let s = c .before .before .before .before .before .before .before .before .before .before .before .before .before .before .before .before .before .before .before .before .before .before in
     (s .pre .0, s .pre .1 .kept-long)
 
-ids-stored-requires : tie.Need-ids-stored-requires
-ids-stored-requires c κs = search needs
-
 store-numbers-requires : tie.Need-store-numbers-requires
 store-numbers-requires c κs =
-    let s = c .before .before .before .before .before .before .before .before .before .before .before .before .before .before .before .before .before .before .before .before .before .before .before .before .before .before .before .before .before in
+    let s = c .before .before .before .before .before .before .before .before .before .before .before .before .before .before .before .before .before .before .before .before .before .before .before .before .before .before .before in
     (s .pre .0, s .pre .1 .opponents-long)
-
-letters-stored-requires : tie.Need-letters-stored-requires
-letters-stored-requires c κs = search needs
 
 store-letters-requires : tie.Need-store-letters-requires
 store-letters-requires c κs =
-    let s = c .before .before .before .before .before .before .before .before .before .before .before .before .before .before .before .before .before .before .before .before .before .before .before .before .before .before .before .before .before .before .before .before .before .before .before in
+    let s = c .before .before .before .before .before .before .before .before .before .before .before .before .before .before .before .before .before .before .before .before .before .before .before .before .before .before .before .before .before .before .before .before in
     (s .pre .0, s .pre .1 .colours-long)
-
-letters-stored-requires-2 : tie.Need-letters-stored-requires-2
-letters-stored-requires-2 c κs = search needs
 
 store-letters-requires-2 : tie.Need-store-letters-requires-2
 store-letters-requires-2 c κs =
-    let s = c .before .before .before .before .before .before .before .before .before .before .before .before .before .before .before .before .before .before .before .before .before .before .before .before .before .before .before .before .before .before .before .before .before .before .before .before .before .before .before .before .before in
+    let s = c .before .before .before .before .before .before .before .before .before .before .before .before .before .before .before .before .before .before .before .before .before .before .before .before .before .before .before .before .before .before .before .before .before .before .before .before .before in
     (s .pre .0, s .pre .1 .results-long)
 
 store-line-requires : tie.Need-store-line-requires
 store-line-requires c κs =
-    let s = c .before .before .before .before .before .before .before .before .before .before .before .before .before .before .before .before .before .before .before .before .before .before .before .before .before .before .before .before .before .before .before .before .before .before .before .before .before .before .before .before .before .before .before .before .before in
+    let s = c .before .before .before .before .before .before .before .before .before .before .before .before .before .before .before .before .before .before .before .before .before .before .before .before .before .before .before .before .before .before .before .before .before .before .before .before .before .before .before .before .before in
     (s .pre .0, s .pre .1 .lines-long)
 
 same-length : tie.Need-same-length
-same-length c = c .before .before .before .before .before .before .before .before .before .before .before .before .before .before .before .before .before .before .before .before .before .before .before .before .before .before .before .before .before .before .before .before .before .before .before .before .before .before .store-number .kept .0
+same-length c = c .before .before .before .before .before .before .before .before .before .before .before .before .before .before .before .before .before .before .before .before .before .before .before .before .before .before .before .before .before .before .before .before .before .before .store-number .kept .0
 
 same-length-2 : tie.Need-same-length-2
-same-length-2 c = c .before .before .before .before .before .before .before .before .before .before .before .before .before .before .before .before .before .before .before .before .before .before .before .before .before .before .before .before .before .before .before .before .before .before .store-number2 .kept .0
+same-length-2 c = c .before .before .before .before .before .before .before .before .before .before .before .before .before .before .before .before .before .before .before .before .before .before .before .before .before .before .before .before .before .before .store-number2 .kept .0
 
 same-length-3 : tie.Need-same-length-3
-same-length-3 c = c .before .before .before .before .before .before .before .before .before .before .before .before .before .before .before .before .before .before .before .before .before .before .before .before .before .before .before .before .before .before .store-number3 .kept .0
+same-length-3 c = c .before .before .before .before .before .before .before .before .before .before .before .before .before .before .before .before .before .before .before .before .before .before .before .before .before .before .store-number3 .kept .0
 
 same-length-4 : tie.Need-same-length-4
-same-length-4 c = c .before .before .before .before .before .before .before .before .before .before .before .before .before .before .before .before .before .before .before .before .before .before .before .before .before .store-kept .kept .0
+same-length-4 c = c .before .before .before .before .before .before .before .before .before .before .before .before .before .before .before .before .before .before .before .before .before .store-kept .kept .0
 
 same-length-5 : tie.Need-same-length-5
-same-length-5 c = c .before .before .before .before .before .before .before .before .before .before .before .before .before .before .before .before .before .before .store-numbers .kept .0
+same-length-5 c = c .before .before .before .before .before .before .before .before .before .before .before .before .before .before .before .before .store-numbers .kept .0
 
 same-length-6 : tie.Need-same-length-6
-same-length-6 c = c .before .before .before .before .before .before .before .before .before .before .before .before .store-letters .kept .0
+same-length-6 c = c .before .before .before .before .before .before .before .before .before .before .before .store-letters .kept .0
 
 same-length-7 : tie.Need-same-length-7
 same-length-7 c = c .before .before .before .before .before .before .store-letters2 .kept .0
@@ -81,21 +71,16 @@ same-length-8 c = c .before .before .store-line .kept .0
 
 returns : tie.Need-returns
 returns c =
-    let s = c .before .before .before .before .before .before .before .before .before .before .before .before .before .before .before .before .before .before .before .before .before .before .before .before .before .before .before .before .before .before .before .before .before .before .before .before .before .before .before .before .before .before .before .before .before .before .before .before in
-    let a = s .args in
+    let a = c .before .before .before .before .before .before .before .before .before .before .before .before .before .before .before .before .before .before .before .before .before .before .before .before .before .before .before .before .before .before .before .before .before .before .before .before .before .before .before .before .before .before .before .before .args in
     λ p text e.
     player-stored p (a .place .0) (a .line .0) (a .row) e (nine (now (a .starts)) (now (a .points)) (now (a .ranks)) (now (a .kept)) (now (a .opponents)) (now (a .colours)) (now (a .results)) text (now (a .lines)))
-    (c .before .before .before .before .before .before .before .before .before .before .before .before .before .before .before .before .before .before .before .ids-stored .result) (c .before .before .before .before .before .before .before .before .before .before .before .before .before .letters-stored .result) (c .before .before .before .before .before .before .before .letters-stored2 .result)
-    (c .before .before .before .before .before .before .before .before .before .before .before .before .before .before .before .before .before .before .before .before .before .before .before .before .before .before .before .before .before .before .before .before .before .before .before .before .before .before .store-number .ensures)
-    (c .before .before .before .before .before .before .before .before .before .before .before .before .before .before .before .before .before .before .before .before .before .before .before .before .before .before .before .before .before .before .before .before .before .before .store-number2 .ensures)
-    (c .before .before .before .before .before .before .before .before .before .before .before .before .before .before .before .before .before .before .before .before .before .before .before .before .before .before .before .before .before .before .store-number3 .ensures)
-    (c .before .before .before .before .before .before .before .before .before .before .before .before .before .before .before .before .before .before .before .before .before .before .before .before .before .store-kept .ensures)
-    (c .before .before .before .before .before .before .before .before .before .before .before .before .before .before .before .before .before .before .store-numbers .ensures)
-    (c .before .before .before .before .before .before .before .before .before .before .before .before .before .before .before .before .before .before .before .ids-stored .ensures)
-    (c .before .before .before .before .before .before .before .before .before .before .before .before .store-letters .ensures)
-    (c .before .before .before .before .before .before .before .before .before .before .before .before .before .letters-stored .ensures)
+    (c .before .before .before .before .before .before .before .before .before .before .before .before .before .before .before .before .before .before .before .before .before .before .before .before .before .before .before .before .before .before .before .before .before .before .store-number .ensures)
+    (c .before .before .before .before .before .before .before .before .before .before .before .before .before .before .before .before .before .before .before .before .before .before .before .before .before .before .before .before .before .before .store-number2 .ensures)
+    (c .before .before .before .before .before .before .before .before .before .before .before .before .before .before .before .before .before .before .before .before .before .before .before .before .before .before .store-number3 .ensures)
+    (c .before .before .before .before .before .before .before .before .before .before .before .before .before .before .before .before .before .before .before .before .before .store-kept .ensures)
+    (c .before .before .before .before .before .before .before .before .before .before .before .before .before .before .before .before .store-numbers .ensures)
+    (c .before .before .before .before .before .before .before .before .before .before .before .store-letters .ensures)
     (c .before .before .before .before .before .before .store-letters2 .ensures)
-    (c .before .before .before .before .before .before .before .letters-stored2 .ensures)
     (c .before .before .store-line .ensures)
 
 pub store-player-spec : {M : Type 1} → statement M
@@ -106,11 +91,8 @@ store-player-spec =
     store-number-requires-2
     store-number-requires-3
     store-kept-requires
-    ids-stored-requires
     store-numbers-requires
-    letters-stored-requires
     store-letters-requires
-    letters-stored-requires-2
     store-letters-requires-2
     store-line-requires
     same-length

@@ -1,5 +1,6 @@
 -- `rows::rounds_else_blank` meets its contract. The loop's invariant: what is asked of all rounds is asked of those that are left. Assumes nothing.
 use native.Mathlib.Omega.{arith}
+use native.Mathlib.Nat.{lt-of-lt-of-le}
 use mathlib.Core.Path.{_≡_, refl, sym, _∙_}
 use mathlib.Core.Bool.{true, false}
 use mathlib.Core.List.{[], _∷_}
@@ -8,17 +9,18 @@ use borrow.Author.Tests.{not-true, not-false}
 use Rattle.kit.specs.Lists.{from, flat}
 use Rattle.law.specs.Columns.{elseBlank}
 use Rattle.law.specs.Players.{roundFields, everyRound}
-use Rattle.rows.proofs.PlayerRounds.{between-turn, between-end}
+use Rattle.rows.proofs.PlayerRounds.{between-turn}
+use Rattle.rows.proofs.Reach.{others-between}
 use borrow.Author.Needs.{needs}
 use Rattle.rows.proofs.rounds_else_blank.Statement.{statement}
 use Rattle.rows.proofs.rounds_else_blank.Tie as tie
 
 abbrev Inv-loop : tie.InvT-loop
-Inv-loop line i₀ i =
-    (i ≤ 20) × (elseBlank 90 (flat roundFields everyRound) line ≡ elseBlank (90 + 10 * i) (flat roundFields (from (i + 1) (20 - i))) line)
+Inv-loop line reach i₀ i =
+    (i ≤ reach) × (elseBlank 90 (flat roundFields everyRound) line ≡ elseBlank (90 + 10 * i) (flat roundFields (from (i + 1) (20 - i))) line)
 
 abbrev μ-loop : tie.MeasureT-loop
-μ-loop line i₀ i = 20 - i
+μ-loop line reach i₀ i = reach - i
 
 loop-holds : tie.Need-loop-holds Inv-loop μ-loop
 loop-holds c = (search needs, refl)
@@ -35,7 +37,7 @@ round-else-blank-requires c κs = search needs
 returns : tie.Need-returns Inv-loop μ-loop
 returns c =
     let l = c .before .before .before in
-    sym (l .loop .inv .1 ∙ between-turn (c .before .before .before .before .before .args .line .now) (l .loop .i) (c .before .before .loop-test .taken) false (sym (c .before .round-else-blank .ensures) ∙ not-true _ (c .if1 .taken)))
+    sym (l .loop .inv .1 ∙ between-turn (c .before .before .before .before .before .args .line .now) (l .loop .i) (lt-of-lt-of-le (c .before .before .loop-test .taken) (l .before .before .pre .most)) false (sym (c .before .round-else-blank .ensures) ∙ not-true _ (c .if1 .taken)))
 
 add-i : tie.Need-add-i Inv-loop μ-loop
 add-i c = search needs
@@ -46,7 +48,7 @@ loop-less c = search needs
 loop-again : tie.Need-loop-again Inv-loop μ-loop
 loop-again c =
     let l = c .before .before .before in
-    (search needs, l .loop .inv .1 ∙ between-turn (c .before .before .before .before .before .args .line .now) (l .loop .i) (c .before .before .loop-test .taken) true (sym (c .before .round-else-blank .ensures) ∙ not-false _ (c .if1 .left)))
+    (search needs, l .loop .inv .1 ∙ between-turn (c .before .before .before .before .before .args .line .now) (l .loop .i) (lt-of-lt-of-le (c .before .before .loop-test .taken) (l .before .before .pre .most)) true (sym (c .before .round-else-blank .ensures) ∙ not-false _ (c .if1 .left)))
 
 blank-from-requires : tie.Need-blank-from-requires Inv-loop μ-loop
 blank-from-requires c κs = tt
@@ -54,8 +56,9 @@ blank-from-requires c κs = tt
 returns-2 : tie.Need-returns-2 Inv-loop μ-loop
 returns-2 c =
     let l = c .before .before in
-    let all-past : l .loop .i ≡ 20 = omega arith in
-    c .blank-from .ensures ∙ sym (l .loop .inv .1 ∙ between-end (c .before .before .before .before .args .line .now) (l .loop .i) all-past)
+    let s = l .before .before in
+    let past : s .args .reach ≤ l .loop .i = omega arith in
+    c .blank-from .ensures ∙ sym (l .loop .inv .1 ∙ others-between (s .args .line .now) (s .args .reach) (s .pre) (l .loop .i) past (l .loop .inv .0))
 
 pub rounds-else-blank-spec : {M : Type 1} → statement M
 rounds-else-blank-spec =

@@ -1,15 +1,10 @@
 -- `rows::slot_of` meets its contract: at each answer the columns read so far say what the round is. Assumes nothing.
-use mathlib.Core.Path.{refl, sym, ap, _∙_}
-use mathlib.Core.Bool.{Bool, true, false}
-use mathlib.Core.Option.{none, some}
-use Prim.Native.Nat.{_+_, _*_}
-use lib.ListN.{getD}
+use mathlib.Core.Path.{sym, ap, _∙_}
 use borrow.Author.Tests.{not-true, not-false}
-use Rattle.law.proofs.FieldsRead.{numberOf, numberOr0}
-use Rattle.fields.specs.Said.{says, orBadField}
+use Rattle.law.proofs.FieldsRead.{numberOf}
 use Rattle.fields.specs.Fields.{numberSays}
 use Rattle.fields.proofs.Cases.{is-value, is-blank, is-bad}
-use Rattle.rows.proofs.PlayerRounds.{idBytes, slot-read, used-id, used-else}
+use Rattle.rows.proofs.PlayerRounds.{idBytes, colour-bad, result-bad, id-bad, wholly-blank, id-blank, id-zero, id-other}
 use borrow.Author.Needs.{needs}
 use Rattle.rows.proofs.slot_of.Statement.{statement}
 use Rattle.rows.proofs.slot_of.Tie as tie
@@ -31,8 +26,8 @@ is-slot-colour-requires c κs = tt
 
 returns : tie.Need-returns
 returns c =
-    let a = c .before .before .before .before .args in
-    sym (ap orBadField (slot-read (a .line .now) (a .round) (c .before .before .before .before .pre .0) (c .before .before .before .before .pre .1) (c .before .before .before .before .pre .2) _ false _ _ refl (sym (c .before .is-slot-colour .ensures) ∙ not-true _ (c .if1 .taken)) refl refl))
+    let p = c .before .before .before .before in
+    colour-bad (p .args .line .now) (p .args .round) (p .pre .0) (p .pre .2) (sym (c .before .is-slot-colour .ensures) ∙ not-true _ (c .if1 .taken))
 
 add-code : tie.Need-add-code
 add-code c = search needs
@@ -48,8 +43,8 @@ is-slot-result-requires c κs = tt
 
 returns-2 : tie.Need-returns-2
 returns-2 c =
-    let a = c .before .before .before .before .before .before .before .before .args in
-    sym (ap orBadField (slot-read (a .line .now) (a .round) (c .before .before .before .before .before .before .before .before .pre .0) (c .before .before .before .before .before .before .before .before .pre .1) (c .before .before .before .before .before .before .before .before .pre .2) (c .before .before .capital .result) true false _ (c .before .before .capital .ensures) (sym (c .before .before .before .before .before .is-slot-colour .ensures) ∙ not-false _ (c .before .before .before .before .if1 .left)) (sym (c .before .is-slot-result .ensures) ∙ not-true _ (c .if2 .taken)) refl))
+    let p = c .before .before .before .before .before .before .before .before in
+    result-bad (p .args .line .now) (p .args .round) (p .pre .0) (p .pre .2) (c .before .before .capital .result) (c .before .before .capital .ensures) (sym (c .before .before .before .before .before .is-slot-colour .ensures) ∙ not-false _ (c .before .before .before .before .if1 .left)) (sym (c .before .is-slot-result .ensures) ∙ not-true _ (c .if2 .taken))
 
 shared-slice-read-number-of : tie.Need-shared-slice-read-number-of
 shared-slice-read-number-of c = search needs
@@ -83,27 +78,47 @@ enum-told c = search needs
 
 returns-3 : tie.Need-returns-3
 returns-3 c =
-    let a = c .before .before .before .before .before .before .before .before .before .before .before .before .before .before .before .args in
-    let n-is = is-bad (numberOf (idBytes (a .line .now) (a .round))) (c .before .before .number-of .result) (c .before .before .number-of .ensures) (c .before .match .keys2) (c .match2 .keys2) in
-    sym (ap orBadField (slot-read (a .line .now) (a .round) (c .before .before .before .before .before .before .before .before .before .before .before .before .before .before .before .pre .0) (c .before .before .before .before .before .before .before .before .before .before .before .before .before .before .before .pre .1) (c .before .before .before .before .before .before .before .before .before .before .before .before .before .before .before .pre .2) (c .before .before .before .before .before .before .before .before .before .capital .result) true true none (c .before .before .before .before .before .before .before .before .before .capital .ensures) (sym (c .before .before .before .before .before .before .before .before .before .before .before .before .is-slot-colour .ensures) ∙ not-false _ (c .before .before .before .before .before .before .before .before .before .before .before .if1 .left)) (sym (c .before .before .before .before .before .before .before .before .is-slot-result .ensures) ∙ not-false _ (c .before .before .before .before .before .before .before .if2 .left)) (ap numberOr0 n-is)))
+    let q = c .before .before in
+    let p = q .before .before .before .before .before .before .before .before .before .before .before .before .before in
+    let n-is = is-bad (numberOf (idBytes (p .args .line .now) (p .args .round))) (q .number-of .result) (q .number-of .ensures) (c .before .match .keys2) (c .match2 .keys2) in
+    id-bad (p .args .line .now) (p .args .round) (p .pre .0) (p .pre .2) (q .before .before .before .before .before .before .before .capital .result) (q .before .before .before .before .before .before .before .capital .ensures) (sym (q .before .before .before .before .before .before .before .before .before .before .is-slot-colour .ensures) ∙ not-false _ (q .before .before .before .before .before .before .before .before .before .if1 .left)) (sym (q .before .before .before .before .before .before .is-slot-result .ensures) ∙ not-false _ (q .before .before .before .before .before .if2 .left)) n-is
 
 is-used-requires : tie.Need-is-used-requires
 is-used-requires c κs = tt
 
 returns-4 : tie.Need-returns-4
 returns-4 c =
-    let a = c .before .before .before .before .before .before .before .before .before .before .before .before .before .before .before .before .before .args in
-    let n-is = is-blank (numberOf (idBytes (a .line .now) (a .round))) (sym (c .before .before .before .before .number-of .ensures) ∙ ap numberSays (c .before .enum-told .given .1)) in
-    ap (λ (u : Bool). says (record { id = 0; colour = getD (a .line .now) (81 + 10 * a .round + 5) 0; result = c .before .before .before .before .before .before .before .before .before .before .before .capital .result; used = u })) (c .is-used .ensures ∙ used-else (a .line .now) (a .round) (c .before .before .before .before .before .before .before .before .before .before .before .before .before .before .before .before .before .pre .0) (c .before .before .before .before .before .before .before .before .before .before .before .before .before .before .before .before .before .pre .1) (c .before .before .before .before .before .before .before .before .before .before .before .before .before .before .before .before .before .pre .2) n-is)
-    ∙ sym (ap orBadField (slot-read (a .line .now) (a .round) (c .before .before .before .before .before .before .before .before .before .before .before .before .before .before .before .before .before .pre .0) (c .before .before .before .before .before .before .before .before .before .before .before .before .before .before .before .before .before .pre .1) (c .before .before .before .before .before .before .before .before .before .before .before .before .before .before .before .before .before .pre .2) (c .before .before .before .before .before .before .before .before .before .before .before .capital .result) true true (some 0) (c .before .before .before .before .before .before .before .before .before .before .before .capital .ensures) (sym (c .before .before .before .before .before .before .before .before .before .before .before .before .before .before .is-slot-colour .ensures) ∙ not-false _ (c .before .before .before .before .before .before .before .before .before .before .before .before .before .if1 .left)) (sym (c .before .before .before .before .before .before .before .before .before .before .is-slot-result .ensures) ∙ not-false _ (c .before .before .before .before .before .before .before .before .before .if2 .left)) (ap numberOr0 n-is)))
+    let q = c .before .before .before .before .before in
+    let p = q .before .before .before .before .before .before .before .before .before .before .before .before .before in
+    let n-is = is-blank (numberOf (idBytes (p .args .line .now) (p .args .round))) (sym (q .number-of .ensures) ∙ ap numberSays (c .before .before .enum-told .given .1)) in
+    wholly-blank (p .args .line .now) (p .args .round) (p .pre .0) (p .pre .2) (q .before .before .before .before .before .before .before .capital .result) (q .before .before .before .before .before .before .before .capital .ensures) (sym (q .before .before .before .before .before .before .before .before .before .before .is-slot-colour .ensures) ∙ not-false _ (q .before .before .before .before .before .before .before .before .before .if1 .left)) (sym (q .before .before .before .before .before .before .is-slot-result .ensures) ∙ not-false _ (q .before .before .before .before .before .if2 .left)) n-is (c .before .is-used .result) (c .before .is-used .ensures) (not-true _ (c .if3 .taken))
+
+bye-of-requires : tie.Need-bye-of-requires
+bye-of-requires c κs = tt
 
 returns-5 : tie.Need-returns-5
 returns-5 c =
-    let a = c .before .before .before .before .before .before .before .before .before .before .before .before .before .before .before .before .args in
-    let id = c .before .n .given .0 .0 in
-    let n-is = is-value (numberOf (idBytes (a .line .now) (a .round))) id (sym (c .before .before .before .number-of .ensures) ∙ ap numberSays (c .before .n .given .1)) in
-    ap (λ (u : Bool). says (record { id = id; colour = getD (a .line .now) (81 + 10 * a .round + 5) 0; result = c .before .before .before .before .before .before .before .before .before .before .capital .result; used = u })) (sym (used-id (a .line .now) (a .round) (c .before .before .before .before .before .before .before .before .before .before .before .before .before .before .before .before .pre .0) (c .before .before .before .before .before .before .before .before .before .before .before .before .before .before .before .before .pre .1) (c .before .before .before .before .before .before .before .before .before .before .before .before .before .before .before .before .pre .2) id n-is))
-    ∙ sym (ap orBadField (slot-read (a .line .now) (a .round) (c .before .before .before .before .before .before .before .before .before .before .before .before .before .before .before .before .pre .0) (c .before .before .before .before .before .before .before .before .before .before .before .before .before .before .before .before .pre .1) (c .before .before .before .before .before .before .before .before .before .before .before .before .before .before .before .before .pre .2) (c .before .before .before .before .before .before .before .before .before .before .capital .result) true true (some id) (c .before .before .before .before .before .before .before .before .before .before .capital .ensures) (sym (c .before .before .before .before .before .before .before .before .before .before .before .before .before .is-slot-colour .ensures) ∙ not-false _ (c .before .before .before .before .before .before .before .before .before .before .before .before .if1 .left)) (sym (c .before .before .before .before .before .before .before .before .before .is-slot-result .ensures) ∙ not-false _ (c .before .before .before .before .before .before .before .before .if2 .left)) (ap numberOr0 n-is)))
+    let q = c .before .before .before .before .before .before in
+    let p = q .before .before .before .before .before .before .before .before .before .before .before .before .before in
+    let n-is = is-blank (numberOf (idBytes (p .args .line .now) (p .args .round))) (sym (q .number-of .ensures) ∙ ap numberSays (c .before .before .before .enum-told .given .1)) in
+    c .bye-of .ensures ∙ id-blank (p .args .line .now) (p .args .round) (p .pre .0) (p .pre .2) (q .before .before .before .before .before .before .before .capital .result) (q .before .before .before .before .before .before .before .capital .ensures) (sym (q .before .before .before .before .before .before .before .before .before .before .is-slot-colour .ensures) ∙ not-false _ (q .before .before .before .before .before .before .before .before .before .if1 .left)) (sym (q .before .before .before .before .before .before .is-slot-result .ensures) ∙ not-false _ (q .before .before .before .before .before .if2 .left)) n-is (c .before .before .is-used .result) (c .before .before .is-used .ensures) (not-false _ (c .before .if3 .left))
+
+bye-of-requires-2 : tie.Need-bye-of-requires-2
+bye-of-requires-2 c κs = tt
+
+returns-6 : tie.Need-returns-6
+returns-6 c =
+    let q = c .before .before .before .before .before in
+    let p = q .before .before .before .before .before .before .before .before .before .before .before .before .before in
+    let n-is = is-value (numberOf (idBytes (p .args .line .now) (p .args .round))) (c .before .before .before .n .given .0 .0) (sym (q .number-of .ensures) ∙ ap numberSays (c .before .before .before .n .given .1)) in
+    c .bye-of2 .ensures ∙ id-zero (p .args .line .now) (p .args .round) (p .pre .0) (p .pre .2) (q .before .before .before .before .before .before .before .capital .result) (q .before .before .before .before .before .before .before .capital .ensures) (sym (q .before .before .before .before .before .before .before .before .before .before .is-slot-colour .ensures) ∙ not-false _ (q .before .before .before .before .before .before .before .before .before .if1 .left)) (sym (q .before .before .before .before .before .before .is-slot-result .ensures) ∙ not-false _ (q .before .before .before .before .before .if2 .left)) (c .before .before .before .n .given .0 .0) n-is (c .before .if4 .taken)
+
+returns-7 : tie.Need-returns-7
+returns-7 c =
+    let q = c .before .before .before .before in
+    let p = q .before .before .before .before .before .before .before .before .before .before .before .before .before in
+    let n-is = is-value (numberOf (idBytes (p .args .line .now) (p .args .round))) (c .before .before .n .given .0 .0) (sym (q .number-of .ensures) ∙ ap numberSays (c .before .before .n .given .1)) in
+    id-other (p .args .line .now) (p .args .round) (p .pre .0) (p .pre .2) (q .before .before .before .before .before .before .before .capital .result) (q .before .before .before .before .before .before .before .capital .ensures) (sym (q .before .before .before .before .before .before .before .before .before .before .is-slot-colour .ensures) ∙ not-false _ (q .before .before .before .before .before .before .before .before .before .if1 .left)) (sym (q .before .before .before .before .before .before .is-slot-result .ensures) ∙ not-false _ (q .before .before .before .before .before .if2 .left)) (c .before .before .n .given .0 .0) n-is (c .if4 .left)
 
 pub slot-of-spec : {M : Type 1} → statement M
 slot-of-spec =
@@ -133,4 +148,8 @@ slot-of-spec =
     returns-3
     is-used-requires
     returns-4
-    returns-5)
+    bye-of-requires
+    returns-5
+    bye-of-requires-2
+    returns-6
+    returns-7)

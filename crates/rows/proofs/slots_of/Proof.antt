@@ -1,19 +1,21 @@
--- `rows::slots_of` meets its contract. The loop's invariant: the first i rounds are read. Assumes nothing.
+-- `rows::slots_of` meets its contract. The loop's invariant: the first i rounds are read; those that the line does not reach are blank. Assumes nothing.
 use native.Mathlib.Omega.{arith}
-use mathlib.Core.Path.{_≡_, sym, ap, _∙_}
-use Prim.Native.Nat.{ℕ, _≤_, _-_}
+use native.Mathlib.Nat.{lt-of-lt-of-le}
+use mathlib.Core.Path.{sym, ap, _∙_}
+use Prim.Native.Nat.{_≤_, _-_}
 use Rattle.fields.proofs.Cases.{value-said, none-said}
 use Rattle.rows.specs.Rows.{slotSays}
 use Rattle.rows.proofs.PlayerRounds.{Read, none-read, round-bad, round-more, all-read}
+use Rattle.rows.proofs.Reach.{others-blank}
 use borrow.Author.Needs.{needs}
 use Rattle.rows.proofs.slots_of.Statement.{statement}
 use Rattle.rows.proofs.slots_of.Tie as tie
 
 abbrev Inv-loop : tie.InvT-loop
-Inv-loop line ids₀ colours₀ results₀ used₀ i₀ ids colours results used i = (i ≤ 20) × Read line i ids colours results used
+Inv-loop line reach ids₀ colours₀ results₀ i₀ ids colours results i = (i ≤ reach) × Read line i ids colours results
 
 abbrev μ-loop : tie.MeasureT-loop
-μ-loop line ids₀ colours₀ results₀ used₀ i₀ ids colours results used i = 20 - i
+μ-loop line reach ids₀ colours₀ results₀ i₀ ids colours results i = reach - i
 
 loop-holds : tie.Need-loop-holds Inv-loop μ-loop
 loop-holds c = (search needs, none-read (c .before .args .line .now))
@@ -36,7 +38,7 @@ no-slots-requires c κs = tt
 returns : tie.Need-returns Inv-loop μ-loop
 returns c =
     let l = c .before .before .before .before .before in
-    round-bad (c .before .before .before .before .before .before .before .args .line .now) (l .loop .i) (l .loop .ids) (l .loop .colours) (l .loop .results) (l .loop .used) (l .loop .inv .1) (c .before .before .before .before .loop-test .taken)
+    round-bad (c .before .before .before .before .before .before .before .args .line .now) (l .loop .i) (l .loop .ids) (l .loop .colours) (l .loop .results) (l .loop .inv .1) (lt-of-lt-of-le (c .before .before .before .before .loop-test .taken) (l .before .before .pre .most))
     (none-said _ (sym (c .before .before .before .slot-of .ensures) ∙ ap slotSays (c .before .enum-told .given .1))) (c .no-slots .ensures)
 
 mul-ids : tie.Need-mul-ids Inv-loop μ-loop
@@ -51,9 +53,6 @@ array-write-colours c = search needs
 array-write-results : tie.Need-array-write-results Inv-loop μ-loop
 array-write-results c = search needs
 
-array-write-used : tie.Need-array-write-used Inv-loop μ-loop
-array-write-used c = search needs
-
 add-i : tie.Need-add-i Inv-loop μ-loop
 add-i c = search needs
 
@@ -64,15 +63,16 @@ loop-again : tie.Need-loop-again Inv-loop μ-loop
 loop-again c =
     let l = c .before .before .before .before .before in (
       search needs,
-      round-more (c .before .before .before .before .before .before .before .args .line .now) (l .loop .i) (l .loop .ids) (l .loop .colours) (l .loop .results) (l .loop .used) (l .loop .inv .1) (c .before .before .before .before .loop-test .taken) _
+      round-more (c .before .before .before .before .before .before .before .args .line .now) (l .loop .i) (l .loop .ids) (l .loop .colours) (l .loop .results) (l .loop .inv .1) (lt-of-lt-of-le (c .before .before .before .before .loop-test .taken) (l .before .before .pre .most)) _
           (value-said _ _ (sym (c .before .before .before .slot-of .ensures) ∙ ap slotSays (c .before .id .given .1))),
     )
 
 returns-2 : tie.Need-returns-2 Inv-loop μ-loop
 returns-2 c =
     let l = c .before in
-    let all-past : l .loop .i ≡ 20 = omega arith in
-    all-read (c .before .before .before .args .line .now) (l .loop .i) (l .loop .ids) (l .loop .colours) (l .loop .results) (l .loop .used) (l .loop .inv .1) all-past
+    let s = l .before .before in
+    let past : s .args .reach ≤ l .loop .i = omega arith in
+    all-read (s .args .line .now) (l .loop .i) (l .loop .ids) (l .loop .colours) (l .loop .results) (l .loop .inv .1) (others-blank (s .args .line .now) (s .args .reach) (s .pre) (l .loop .i) past (l .loop .inv .0))
 
 pub slots-of-spec : {M : Type 1} → statement M
 slots-of-spec =
@@ -91,7 +91,6 @@ slots-of-spec =
     array-write-ids
     array-write-colours
     array-write-results
-    array-write-used
     add-i
     loop-less
     loop-again

@@ -98,10 +98,10 @@ returns-6 c =
 
 returns-7 : tie.Need-returns-7
 returns-7 c =
-    row-good (c .before .before .before .before .before .before .before .before .before .before .before .before .before .before .before .before .before .before .before .before .before .before .before .before .before .args .line .now) (c .before .before .before .before .before .before .before .before .before .before .before .before .before .before .before .before .before .before .before .before .before .kept-of .result) (c .before .before .before .before .before .before .before .before .before .before .before .before .before .before .before .before .before .before .before .before .before .kept-of .ensures) (sym (c .before .before .before .before .before .before .before .before .before .before .before .before .before .before .before .before .before .before .before .before .before .before .before .player-else-blank .ensures) ∙ not-false _ (c .before .before .before .before .before .before .before .before .before .before .before .before .before .before .before .before .before .before .before .before .before .before .if1 .left))
-    (sym (c .before .before .before .before .before .before .before .before .before .before .before .before .before .before .before .before .before .before .before .before .is-kept .ensures) ∙ not-false _ (c .before .before .before .before .before .before .before .before .before .before .before .before .before .before .before .before .before .before .before .if2 .left)) _ (found _ _ (sym (c .before .before .before .before .before .before .before .before .before .before .before .before .before .before .before .before .before .before .counted-at .ensures) ∙ ap numberSays (c .before .before .before .before .before .before .before .before .before .before .before .before .before .before .before .before .start .given .1)))
-    _ (value-said _ _ (sym (c .before .before .before .before .before .before .before .before .before .before .before .before .before .before .points-at .ensures) ∙ ap pointsSays (c .before .before .before .before .before .before .before .before .before .before .before .before .points .given .1))) _ (found _ _ (sym (c .before .before .before .before .before .before .before .before .before .before .counted-at2 .ensures) ∙ ap numberSays (c .before .before .before .before .before .before .before .before .rank .given .1))) (c .before .before .before .before .before .before .slots-of .result) (c .before .before .before .before .before .before .slots-of .ensures)
-    (not-false _ (c .before .before .before .before .if3 .left))
+    row-good (c .before .before .before .before .before .before .before .before .before .before .before .before .before .before .before .before .before .before .before .before .before .before .before .before .args .line .now) (c .before .before .before .before .before .before .before .before .before .before .before .before .before .before .before .before .before .before .before .before .kept-of .result) (c .before .before .before .before .before .before .before .before .before .before .before .before .before .before .before .before .before .before .before .before .kept-of .ensures) (sym (c .before .before .before .before .before .before .before .before .before .before .before .before .before .before .before .before .before .before .before .before .before .before .player-else-blank .ensures) ∙ not-false _ (c .before .before .before .before .before .before .before .before .before .before .before .before .before .before .before .before .before .before .before .before .before .if1 .left))
+    (sym (c .before .before .before .before .before .before .before .before .before .before .before .before .before .before .before .before .before .before .before .is-kept .ensures) ∙ not-false _ (c .before .before .before .before .before .before .before .before .before .before .before .before .before .before .before .before .before .before .if2 .left)) _ (found _ _ (sym (c .before .before .before .before .before .before .before .before .before .before .before .before .before .before .before .before .before .counted-at .ensures) ∙ ap numberSays (c .before .before .before .before .before .before .before .before .before .before .before .before .before .before .before .start .given .1)))
+    _ (value-said _ _ (sym (c .before .before .before .before .before .before .before .before .before .before .before .before .before .points-at .ensures) ∙ ap pointsSays (c .before .before .before .before .before .before .before .before .before .before .before .points .given .1))) _ (found _ _ (sym (c .before .before .before .before .before .before .before .before .before .counted-at2 .ensures) ∙ ap numberSays (c .before .before .before .before .before .before .before .rank .given .1))) (c .before .before .before .before .before .slots-of .result) (c .before .before .before .before .before .slots-of .ensures)
+    (not-false _ (c .before .before .before .if3 .left))
 
 pub wide-player-spec : {M : Type 1} → statement M
 wide-player-spec =
