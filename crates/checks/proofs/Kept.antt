@@ -19,15 +19,15 @@ use Rattle.join.specs.Grid.{firstFrom}
 use Rattle.join.specs.Store.{Nine, placeOf}
 use Rattle.join.specs.Check.{placeAt, roundAt, entryCell, isGameBy, answersBy, keepsCell, brokenCell}
 use Rattle.join.proofs.Firsts.{first-as}
-use Rattle.checks.specs.declared.Placed.{Placed}
-use Rattle.checks.specs.declared.Placed.the-variants.{At, Nobody}
+use Rattle.index.specs.declared.Placed.{Placed}
+use Rattle.index.specs.declared.Placed.the-variants.{At, Nobody}
+use Rattle.index.specs.Index.{asPlaced}
+use Rattle.index.proofs.Told.{told-place, told-nobody}
 use Rattle.checks.specs.declared.LawKind.{LawKind}
 use Rattle.checks.specs.declared.LawKind.the-variants.{ByeOrGame, Mutual, Fitting, OneU}
 use Rattle.checks.specs.Results.{entry}
-use Rattle.checks.specs.Index.{asPlaced}
 use Rattle.checks.specs.Laws.{four}
 use Rattle.checks.proofs.LawKind.{the-type}
-use Rattle.checks.proofs.Told.{told-place, told-nobody}
 
 -- ---- a game
 pub game-nobody : (id colour result start : ℕ) (o : Option ℕ) {placed : Placed} → placed ≡ asPlaced o → placed ≡ Nobody → false ≡ isGameBy (entry id colour result) start o

@@ -8,7 +8,6 @@ use Rattle.law.specs.Tables.{entryCells}
 use Rattle.join.specs.Store.{Nine}
 use Rattle.checks.specs.declared.LawKind.{LawKind}
 use Rattle.checks.specs.declared.LawKind.the-variants.{ByeOrGame, Mutual, Fitting, OneU}
-use Rattle.checks.specs.Index.{IndexOf, LowStarts}
 
 abbrev pub asLaw : LawKind → Law
 asLaw ByeOrGame = bye-or-game
@@ -26,15 +25,3 @@ pub record Long (starts opponents colours results : List ℕ) : Type 0 where
   pub opponents-long : entryCells ≤ length opponents
   pub colours-long : entryCells ≤ length colours
   pub results-long : entryCells ≤ length results
-
--- the index has the start numbers of n players, all of which it can have
-pub record Indexed (starts : List ℕ) (n : ℕ) (index : List ℕ) : Type 0 where
-  pub few : n ≤ mostPlayers
-  pub says : IndexOf starts n index
-  pub low : LowStarts starts n
-
--- of some players
-pub record IsIndex (index : List ℕ) : Type 0 where
-  pub starts : List ℕ
-  pub players : ℕ
-  pub indexed : Indexed starts players index

@@ -1,5 +1,2 @@
 pub mod Results
-pub mod Found
-pub mod Index
 pub mod Laws
-pub mod Closing

@@ -15,10 +15,10 @@ use Rattle.law.specs.Entries.{isBye, fits, bye-or-game}
 use Rattle.law.specs.Tables.{cellOf}
 use Rattle.join.specs.Store.{placeOf}
 use Rattle.join.specs.Check.{entryCell, isGameBy, keepsCell}
-use Rattle.checks.specs.declared.Placed.{Placed}
-use Rattle.checks.specs.declared.Placed.the-variants.{At, Nobody}
+use Rattle.index.specs.declared.Placed.{Placed}
+use Rattle.index.specs.declared.Placed.the-variants.{At, Nobody}
+use Rattle.index.specs.Index.{asPlaced}
 use Rattle.checks.specs.Results.{entry}
-use Rattle.checks.specs.Index.{asPlaced}
 use Rattle.checks.specs.Laws.{four}
 use Rattle.checks.proofs.Kept.{game-somebody, bye-kept, mutual-alone, fitting-alone, mutual-kept, fitting-kept}
 use Rattle.glances.specs.Glance.{Fits, Answered, Opposite, KeepsEntry}

@@ -1,5 +1,5 @@
 // One look at each entry: whether all of them keep the four laws, and whether none is past the rounds that there are. Most files are so, and then no search
-// for the first that is not is needed. Promised: a yes is right; after a no the searches of checks tell what is wrong, and where.
+// for the first that is not is needed. Promised: a yes is right; after a no the searches of closings and checks tell what is wrong, and where.
 ghost use mathlib.Core.Path.{_≡_};
 ghost use mathlib.Core.Bool.{true};
 ghost use mathlib.Core.Option.{none};
@@ -11,10 +11,11 @@ ghost use Rattle.law.specs.Entries.{Law};
 ghost use Rattle.law.specs.Tables.{entryCells};
 ghost use Rattle.join.specs.Grid.{firstFrom};
 ghost use Rattle.join.specs.Check.{pastCell, brokenCell};
-ghost use Rattle.checks.specs.Laws.{four, Long, Indexed, IsIndex};
+ghost use Rattle.index.specs.Index.{Indexed, IsIndex};
+ghost use Rattle.checks.specs.Laws.{four, Long};
 ghost use Rattle.glances.specs.Glance.{Answered, Fits, Opposite, KeepsEntry, KeepsRow, KeepsRows, Noted, OnceU, BlankRow};
-use checks::Placed;
-use checks::START_CELLS;
+use index::Placed;
+use index::START_CELLS;
 use types::MOST_ROUNDS;
 use types::Place;
 use types::StartNumber;
@@ -79,7 +80,7 @@ fn keeps_entry(
     let id = opponents[i];
     let colour = colours[i];
     let result = results[i];
-    let opponent = checks::place_of(index, StartNumber(id));
+    let opponent = index::place_of(index, StartNumber(id));
     let Placed::At(other) = opponent else {
         return checks::is_bye(id, colour, result);
     };

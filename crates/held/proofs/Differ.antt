@@ -13,12 +13,11 @@ use Rattle.kit.proofs.Decided.{no-some}
 use Rattle.law.specs.Sizes.{mostPlayers, mostStart, isStart}
 use Rattle.join.specs.Store.{placeOf}
 use Rattle.types.specs.declared.Place.{Place}
-use Rattle.checks.specs.declared.Placed.{Placed}
-use Rattle.checks.specs.declared.Placed.the-variants.{At, Nobody}
-use Rattle.checks.specs.Index.{IndexOf, LowStarts, asPlaced}
-use Rattle.checks.specs.Laws.{Indexed}
-use Rattle.checks.proofs.Told.{told-place, told-nobody}
-use Rattle.checks.proofs.Indexes.{index-more}
+use Rattle.index.specs.declared.Placed.{Placed}
+use Rattle.index.specs.declared.Placed.the-variants.{At, Nobody}
+use Rattle.index.specs.Index.{IndexOf, LowStarts, asPlaced, Indexed}
+use Rattle.index.proofs.Told.{told-place, told-nobody}
+use Rattle.index.proofs.Indexes.{index-more}
 use Rattle.texts.specs.Kept.{Told}
 use Rattle.texts.proofs.KeptLines.{told-no}
 

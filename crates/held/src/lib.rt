@@ -13,13 +13,12 @@ ghost use Rattle.law.specs.Players.{SpellsKept};
 ghost use Rattle.law.specs.Lawful.{noAcceleration};
 ghost use Rattle.law.specs.Tables.{keptCells, entryCells};
 ghost use Rattle.join.specs.Store.{placeOf};
-ghost use Rattle.checks.specs.Index.{IndexOf};
-ghost use Rattle.checks.specs.Laws.{Indexed};
+ghost use Rattle.index.specs.Index.{IndexOf, Indexed};
 ghost use Rattle.texts.specs.Kept.{Told};
 ghost use Rattle.readings.specs.Good.{Unused, UnusedEntries, keptAt};
 ghost use Rattle.held.specs.Rows.{unusedFrom, UnusedRow};
-use checks::Placed;
-use checks::START_CELLS;
+use index::Placed;
+use index::START_CELLS;
 use types::Acceleration;
 use types::KEPT_COLUMNS;
 use types::MOST_ACCELERATIONS;
@@ -226,10 +225,10 @@ pub fn starts_differ(starts: &[u32], n: usize, index: &mut [u8; START_CELLS]) ->
         let place = Place(p as u32);
         let own = tables::own_cell(place);
         let start = StartNumber(starts[own]);
-        let Placed::Nobody = checks::place_of(index, start) else {
+        let Placed::Nobody = index::place_of(index, start) else {
             return false;
         };
-        checks::index_start(index, start, place);
+        index::index_start(index, start, place);
         p += 1;
     }
     true

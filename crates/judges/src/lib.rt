@@ -10,13 +10,13 @@ ghost use Rattle.law.specs.Sizes.{mostPlayers, mostRounds};
 ghost use Rattle.law.specs.Tables.{entryCells, lineCells};
 ghost use Rattle.join.specs.Store.{Nine};
 ghost use Rattle.join.specs.Check.{roundsFound, verdict};
-ghost use Rattle.checks.specs.Laws.{Indexed};
+ghost use Rattle.index.specs.Index.{Indexed};
+ghost use Rattle.closings.specs.Values.{areSmall};
 ghost use Rattle.checks.specs.Laws as laws;
-ghost use Rattle.checks.specs.Results.{areSmall};
 ghost use Rattle.verdicts.specs.Verdict.{asVerdict};
 ghost use Rattle.steps.specs.Counts.{asCount, Small};
 ghost use Rattle.judges.specs.Closing.{isComplete, pastIn, dash, zed, ClosedBy};
-use checks::START_CELLS;
+use index::START_CELLS;
 use steps::Counts;
 use types::Acceleration;
 use types::LineNumber;
@@ -89,7 +89,7 @@ fn rounds_of(c: Counts, colours: &[u8]) -> u32
     if c.stated {
         return c.rounds;
     }
-    checks::rounds_seen(colours, c.players)
+    closings::rounds_seen(colours, c.players)
 }
 
 // The number of rounds, and the first refusal of the whole file.
@@ -117,8 +117,8 @@ pub fn finish(
     let rounds = rounds_of(c, colours);
     let n = c.players;
     let past = verdicts::past(colours, lines, n, rounds);
-    checks::close(colours, n, rounds, b'-');
-    checks::close(results, n, rounds, b'Z');
+    closings::close(colours, n, rounds, b'-');
+    closings::close(results, n, rounds, b'Z');
     let verdict = judge(
         c,
         records,

@@ -26,15 +26,15 @@ use Rattle.law.specs.Tables.{Tables, keptCells}
 use Rattle.join.specs.Grid.{firstFrom}
 use Rattle.join.specs.Store.{placeOf}
 use Rattle.join.specs.Check.{brokenCell, wrongSum, sharedRecord}
-use Rattle.checks.specs.declared.Found.{Found}
-use Rattle.checks.specs.declared.Found.the-variants.{At, Nothing}
-use Rattle.checks.specs.Found.{asFound}
-use Rattle.checks.specs.Index.{IndexOf}
+use Rattle.turns.specs.declared.Found.{Found}
+use Rattle.turns.specs.declared.Found.the-variants.{At, Nothing}
+use Rattle.turns.specs.Found.{asFound}
+use Rattle.turns.proofs.Told.{told-at, told-nothing}
+use Rattle.index.specs.Index.{IndexOf}
+use Rattle.index.proofs.Indexes.{index-zeros}
+use Rattle.closings.specs.Values.{areSmall}
 use Rattle.checks.specs.Laws.{four}
-use Rattle.checks.specs.Results.{areSmall}
-use Rattle.checks.proofs.Indexes.{index-zeros}
 use Rattle.checks.proofs.Kept.{first-in}
-use Rattle.checks.proofs.Told.{told-at, told-nothing}
 use Rattle.texts.specs.Kept.{KeptText, Told}
 use Rattle.texts.proofs.KeptLines.{told-no}
 use Rattle.readings.specs.Good.{Unused, UnusedEntries, keptAt, nineOf, GoodAnswer, GoodReading}

@@ -13,16 +13,17 @@ ghost use Rattle.law.specs.Entries.{Law};
 ghost use Rattle.law.specs.Tables.{keptCells, entryCells, enough};
 ghost use Rattle.join.specs.Grid.{firstFrom};
 ghost use Rattle.join.specs.Check.{brokenCell, wrongSum};
-ghost use Rattle.checks.specs.Found.{asFound};
-ghost use Rattle.checks.specs.Laws.{asLaw, four, Long, Indexed};
-ghost use Rattle.checks.specs.Results.{areSmall};
+ghost use Rattle.turns.specs.Found.{asFound};
+ghost use Rattle.index.specs.Index.{Indexed};
+ghost use Rattle.closings.specs.Values.{areSmall};
+ghost use Rattle.checks.specs.Laws.{asLaw, four, Long};
 ghost use Rattle.texts.specs.Kept.{Told};
 ghost use Rattle.readings.specs.Good.{GoodAnswer, GoodReading};
 ghost use Rattle.lawful.specs.Given.{tablesOf};
 ghost use Rattle.lawful.specs.Parts.{Own, OwnRest, EntriesRest, TextIs, RecordsAre, Together};
-use checks::Found;
 use checks::LawKind;
-use checks::START_CELLS;
+use index::START_CELLS;
+use turns::Found;
 use types::Acceleration;
 use types::Answer;
 use types::KEPT;
@@ -135,7 +136,7 @@ fn records_are(records: [Acceleration; MOST_ACCELERATIONS], n: usize) -> bool
     ensures { λ r. ⌜ Told (RecordsAre n records) r ⌝ }
 {
     let each = held::accelerations_are(records, n);
-    let apart = is_nothing(checks::first_shared(records, n));
+    let apart = is_nothing(closings::first_shared(records, n));
     let rest = held::records_unused(records, n);
     each & apart & rest
 }
@@ -189,7 +190,7 @@ fn sums_are(points: &[u32], results: &[u8], values: [u32; VALUES], n: usize, rou
     requires { ⌜ (n ≤ mostPlayers) × (rounds ≤ mostRounds) × (mostPlayers ≤ length (now points)) × (entryCells ≤ length (now results)) × (areSmall values ≡ true) ⌝ }
     ensures { λ r. ⌜ Told (firstFrom (wrongSum values (now (points .entry)) (now (results .entry)) rounds) 0 n ≡ none) r ⌝ }
 {
-    is_nothing(checks::first_wrong_sum(points, results, values, n, rounds))
+    is_nothing(closings::first_wrong_sum(points, results, values, n, rounds))
 }
 
 // Whether n players have start numbers that differ, lawful entries and the sums of what these earned.

@@ -32,9 +32,9 @@ use Rattle.join.proofs.Cells.{holds-as, holds-then}
 use Rattle.join.proofs.Steps.{After, faultOf}
 use Rattle.join.proofs.Verdict.{Held, rounds-are, no-verdict}
 use Rattle.join.proofs.Reading as reading
-use Rattle.checks.specs.Laws.{Indexed}
-use Rattle.checks.specs.Results.{areSmall}
-use Rattle.checks.proofs.Indexes.{index-zeros}
+use Rattle.index.specs.Index.{Indexed}
+use Rattle.index.proofs.Indexes.{index-zeros}
+use Rattle.closings.specs.Values.{areSmall}
 use Rattle.verdicts.specs.declared.Verdict.{Verdict}
 use Rattle.verdicts.specs.Verdict.{asVerdict}
 use Rattle.record_cells.specs.Cells.{recordCells, recordsOf}

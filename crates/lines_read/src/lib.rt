@@ -10,7 +10,7 @@ ghost use Rattle.join.specs.Kept.{Long, Zeroed};
 ghost use Rattle.tables.specs.Lent.{lent, before, after};
 ghost use Rattle.steps.specs.Counts.{asCount, Small};
 ghost use Rattle.lines_read.specs.Core.{noRecords, refusedCore, acceptedCore, LinesRead};
-use checks::START_CELLS;
+use index::START_CELLS;
 use record_cells::RECORD_CELLS;
 use scorings::Scoring;
 use steps::Counts;

@@ -18,12 +18,11 @@ use Rattle.join.specs.Store.{Nine, Count, State, state, placeOf, storePlayer, c
 use Rattle.fields.proofs.Cases.{standing, stands-is}
 use Rattle.rows.specs.declared.Row.{Row}
 use Rattle.rows.specs.Rows.{noRow, theRow, RowSays}
-use Rattle.checks.specs.declared.Placed.{Placed}
-use Rattle.checks.specs.declared.Placed.the-variants.{At, Nobody}
-use Rattle.checks.specs.Index.{asPlaced}
-use Rattle.checks.specs.Laws.{Indexed}
-use Rattle.checks.proofs.Told.{told-place, told-nobody}
-use Rattle.checks.proofs.Indexes.{index-more, low-more}
+use Rattle.index.specs.declared.Placed.{Placed}
+use Rattle.index.specs.declared.Placed.the-variants.{At, Nobody}
+use Rattle.index.specs.Index.{asPlaced, Indexed}
+use Rattle.index.proofs.Told.{told-place, told-nobody}
+use Rattle.index.proofs.Indexes.{index-more, low-more}
 
 -- ---- the row of a line
 pub record Read (line : List ℕ) (r : Row) : Type 0 where

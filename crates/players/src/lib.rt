@@ -10,11 +10,11 @@ ghost use Rattle.law.proofs.RecordsRead.{playerOf};
 ghost use Rattle.join.specs.Store.{state, storePlayer, countPlayer, stepPlayer};
 ghost use Rattle.rows.specs.Rows.{theRow};
 ghost use Rattle.tables.specs.Lent.{nine};
-ghost use Rattle.checks.specs.Laws.{Indexed};
+ghost use Rattle.index.specs.Index.{Indexed};
 ghost use Rattle.steps.specs.Counts.{asCount, went};
 ghost use Rattle.players.specs.Stored.{LongEight};
-use checks::Placed;
-use checks::START_CELLS;
+use index::Placed;
+use index::START_CELLS;
 use rows::Row;
 use steps::Counts;
 use steps::Stepped;
@@ -91,7 +91,7 @@ pub fn step_player(
         };
     }
     let start = row.start;
-    let Placed::Nobody = checks::place_of(index, start) else {
+    let Placed::Nobody = index::place_of(index, start) else {
         return Stepped {
             fault: 8,
             counts: c,
@@ -117,7 +117,7 @@ pub fn step_player(
         results,
         lines,
     );
-    checks::index_start(index, start, place);
+    index::index_start(index, start, place);
     Stepped {
         fault: 0,
         counts: with_player(c),

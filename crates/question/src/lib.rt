@@ -12,11 +12,11 @@ ghost use Rattle.law.specs.Refusals.{refusal};
 ghost use Rattle.law.specs.Writing.{pointsOr0};
 ghost use Rattle.law.specs.Calls.{scoreAnswer, Asks};
 ghost use Rattle.join.specs.Grid.{firstFrom};
-ghost use Rattle.checks.specs.Found.{asFound};
+ghost use Rattle.turns.specs.Found.{asFound};
 ghost use Rattle.types.specs.declared.Acceleration as lent;
 ghost use Rattle.lawful.specs.Given.{tablesOf, Given};
 ghost use Rattle.question.specs.Covering.{coversAt};
-use checks::Found;
+use turns::Found;
 use types::Acceleration;
 use types::Answer;
 use types::LineNumber;
@@ -148,7 +148,7 @@ pub fn ask_core(
         number: 0,
         line: LineNumber(0),
         round: 0,
-        points: checks::sum_of(results, values, place, round - 1),
+        points: closings::sum_of(results, values, place, round - 1),
         acceleration: acceleration_for(all, n, start, round),
     }
 }

@@ -16,7 +16,7 @@ use Rattle.join.specs.Run.{Way, on, stop, next, runAll}
 use Rattle.join.specs.Store.{Nine, State, state, stepLine}
 use Rattle.join.specs.Kept.{Long}
 use Rattle.lines.specs.Step.{byteFault, FaultAt, WholeAt}
-use Rattle.checks.specs.Laws.{Indexed}
+use Rattle.index.specs.Index.{Indexed}
 use Rattle.record_cells.specs.Cells.{recordCells, recordsOf}
 use Rattle.steps.specs.declared.Counts.{Counts}
 use Rattle.steps.specs.declared.Stepped.{Stepped}

@@ -21,7 +21,7 @@ use Rattle.law.specs.Items.{Kind, passed-over, kept-text, 142-record, 152-recor
 use Rattle.law.proofs.RecordsRead.{textOf, roundsOfRow, colourOf, givenOf, accelerationOf, playerOf}
 use Rattle.join.specs.Run.{Way, on, stop}
 use Rattle.join.specs.Store.{Nine, Count, State, state, refuseOr, placeOf, codePlace, countText, countRounds, countColour, countScoring, countAcceleration, countPlayer, stepText, stepRounds, stepColour, stepScoring, stepAcceleration, stepPlayer, stepRow, stepLine}
-use Rattle.checks.specs.Laws.{Indexed}
+use Rattle.index.specs.Index.{Indexed}
 use Rattle.steps.specs.declared.Stepped.{Stepped}
 use Rattle.steps.specs.Counts.{asCount, went, Small}
 use Rattle.runs.specs.Lined.{lineOf}

@@ -7,8 +7,8 @@ use Rattle.law.specs.Entries.{bye-or-game, mutual-pairing, fitting-results, one
 use Rattle.law.specs.Refusals.{Refusal}
 use Rattle.join.specs.Store.{Nine}
 use Rattle.join.specs.Check.{brokenBy}
-use Rattle.checks.specs.declared.Found.{Found}
-use Rattle.checks.specs.declared.Found.the-variants.{At}
+use Rattle.turns.specs.declared.Found.{Found}
+use Rattle.turns.specs.declared.Found.the-variants.{At}
 use Rattle.checks.specs.declared.LawKind.{LawKind}
 use Rattle.checks.specs.declared.LawKind.the-variants.{ByeOrGame, Mutual, Fitting, OneU}
 use Rattle.verdicts.specs.declared.Verdict.{Verdict}

@@ -11,13 +11,14 @@ ghost use Rattle.law.specs.Refusals.{refusal, fileFaultNumber, past-142, shared
 ghost use Rattle.join.specs.Grid.{firstFrom};
 ghost use Rattle.join.specs.Check.{pastCell, sharedRecord, wrongSum, brokenCell, atPlayer};
 ghost use Rattle.join.specs.Store.{Nine};
-ghost use Rattle.checks.specs.Found.{asFound};
-ghost use Rattle.checks.specs.Results.{areSmall};
-ghost use Rattle.checks.specs.Laws.{Long, Indexed, asLaw, four};
+ghost use Rattle.turns.specs.Found.{asFound};
+ghost use Rattle.index.specs.Index.{Indexed};
+ghost use Rattle.closings.specs.Values.{areSmall};
+ghost use Rattle.checks.specs.Laws.{Long, asLaw, four};
 ghost use Rattle.verdicts.specs.Verdict.{asVerdict, lawNumber, unlawfulIn, FoundUnder};
-use checks::Found;
 use checks::LawKind;
-use checks::START_CELLS;
+use index::START_CELLS;
+use turns::Found;
 use types::Acceleration;
 use types::LineNumber;
 use types::MOST_ACCELERATIONS;
@@ -49,8 +50,8 @@ fn at_turn(number: u32, lines: &[u32], found: Found) -> Verdict
     let Found::At(k) = found else {
         return nothing();
     };
-    let place = checks::place_at(k);
-    let round = checks::round_at(k);
+    let place = turns::place_at(k);
+    let round = turns::round_at(k);
     let i = tables::own_cell(place);
     Verdict {
         number,
@@ -67,7 +68,7 @@ pub fn past(colours: &[u8], lines: &[u32], n: usize, rounds: u32) -> Verdict
     if glances::none_past(colours, n, rounds) {
         return nothing();
     }
-    at_turn(11, lines, checks::first_past(colours, n, rounds))
+    at_turn(11, lines, closings::first_past(colours, n, rounds))
 }
 
 // 17: a record that shares with an earlier one, by the record's line.
@@ -75,7 +76,7 @@ pub fn sharing(records: [Acceleration; MOST_ACCELERATIONS], n: usize, lines: &[u
     requires { ⌜ (n ≤ mostAccelerations) × (lineCells ≤ length (now lines)) ⌝ }
     ensures { λ r. ⌜ r ≡ asVerdict (to (λ j. refusal (fileFaultNumber shared) (getD (now (lines .entry)) (mostPlayers + j) 0) 0) (firstFrom (sharedRecord records) 0 n)) ⌝ }
 {
-    let Found::At(j) = checks::first_shared(records, n) else {
+    let Found::At(j) = closings::first_shared(records, n) else {
         return nothing();
     };
     Verdict {
@@ -98,7 +99,7 @@ pub fn wrong_points(
     requires { ⌜ lineCells ≤ length (now lines) ⌝ }
     ensures { λ r. ⌜ r ≡ asVerdict (to (λ p. refusal (fileFaultNumber wrong-sum) (getD (now (lines .entry)) p 0) 0) (firstFrom (wrongSum values (now (points .entry)) (now (results .entry)) rounds) 0 n)) ⌝ }
 {
-    let Found::At(p) = checks::first_wrong_sum(points, results, values, n, rounds) else {
+    let Found::At(p) = closings::first_wrong_sum(points, results, values, n, rounds) else {
         return nothing();
     };
     let i = tables::own_cell(Place(p as u32));

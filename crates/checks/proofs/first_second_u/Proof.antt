@@ -5,9 +5,9 @@ use mathlib.Core.List.{[]}
 use Prim.Native.Nat.{_-_}
 use Rattle.law.specs.Entries.{one-U}
 use Rattle.join.specs.Check.{brokenCell}
-use Rattle.checks.specs.Found.{asFound}
+use Rattle.turns.specs.Found.{asFound}
 use Rattle.checks.specs.Laws.{four}
-use Rattle.checks.proofs.Seeks.{Seeking, seek-none, seek-hit, seek-more, seek-end}
+use Rattle.turns.proofs.Seeks.{Seeking, seek-none, seek-hit, seek-more, seek-end}
 use Rattle.checks.proofs.Flags.{Flags, flags-none, flags-more, second-is, u-alone}
 use Rattle.checks.proofs.first_second_u.Statement.{statement}
 use Rattle.checks.proofs.first_second_u.Tie as tie

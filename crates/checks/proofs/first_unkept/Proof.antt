@@ -5,7 +5,7 @@ use Prim.Native.Nat.{_-_}
 use native.Mathlib.Omega.{arith}
 use Rattle.join.specs.Check.{brokenCell}
 use Rattle.checks.specs.Laws.{asLaw, four}
-use Rattle.checks.proofs.Seeks.{Seeking, seek-none, seek-hit, seek-more, seek-end}
+use Rattle.turns.proofs.Seeks.{Seeking, seek-none, seek-hit, seek-more, seek-end}
 use Rattle.checks.proofs.first_unkept.Statement.{statement}
 use Rattle.checks.proofs.first_unkept.Tie as tie
 

@@ -1,7 +1,7 @@
 -- `checks::keeps_fitting` meets its contract. Assumes nothing.
 use borrow.Author.Needs.{needs}
 use native.Mathlib.Omega.{arith}
-use Rattle.checks.proofs.Told.{told-player}
+use Rattle.index.proofs.Told.{told-player}
 use Rattle.checks.proofs.Kept.{fitting-alone, fitting-kept}
 use Rattle.checks.proofs.keeps_fitting.Statement.{statement}
 use Rattle.checks.proofs.keeps_fitting.Tie as tie

@@ -1,7 +1,7 @@
 -- `checks::keeps_mutual` meets its contract. Assumes nothing.
 use borrow.Author.Needs.{needs}
 use native.Mathlib.Omega.{arith}
-use Rattle.checks.proofs.Told.{told-player}
+use Rattle.index.proofs.Told.{told-player}
 use Rattle.checks.proofs.Kept.{mutual-alone, mutual-kept}
 use Rattle.checks.proofs.keeps_mutual.Statement.{statement}
 use Rattle.checks.proofs.keeps_mutual.Tie as tie

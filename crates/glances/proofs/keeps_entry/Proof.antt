@@ -3,7 +3,7 @@ use native.Mathlib.Omega.{arith}
 use borrow.Author.Needs.{needs}
 use borrow.Author.Tests.{not-false}
 use Rattle.kit.proofs.Bools.{clash}
-use Rattle.checks.proofs.Told.{told-player}
+use Rattle.index.proofs.Told.{told-player}
 use Rattle.glances.proofs.Entries.{bye-keeps, game-keeps}
 use Rattle.glances.proofs.keeps_entry.Statement.{statement}
 use Rattle.glances.proofs.keeps_entry.Tie as tie

@@ -6,7 +6,8 @@ use lib.ListN.{getD}
 use borrow.Author.Tests.{not-false}
 use borrow.Author.Count.{below-more}
 use Rattle.kit.proofs.Bools.{clash}
-use Rattle.checks.specs.Laws.{four, Indexed}
+use Rattle.index.specs.Index.{Indexed}
+use Rattle.checks.specs.Laws.{four}
 use Rattle.glances.specs.Glance.{KeepsEntry, KeepsRow}
 use borrow.Author.Needs.{needs}
 use Rattle.glances.proofs.keeps_row.Statement.{statement}

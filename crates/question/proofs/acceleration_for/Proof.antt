@@ -2,7 +2,7 @@
 use native.Mathlib.Omega.{arith}
 use borrow.Author.Needs.{needs}
 use Rattle.join.specs.Grid.{firstFrom}
-use Rattle.checks.proofs.Told.{told-at, told-nothing, told-under}
+use Rattle.turns.proofs.Told.{told-at, told-nothing, told-under}
 use Rattle.question.specs.Covering.{coversAt}
 use Rattle.question.proofs.Added.{found-points, no-points}
 use Rattle.question.proofs.acceleration_for.Statement.{statement}

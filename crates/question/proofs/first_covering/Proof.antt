@@ -2,7 +2,7 @@
 use mathlib.Core.Path.{sym, _∙_}
 use Prim.Native.Nat.{_-_}
 use borrow.Author.Needs.{needs}
-use Rattle.checks.proofs.Seeks.{Seeking, seek-none, seek-hit, seek-more, seek-end}
+use Rattle.turns.proofs.Seeks.{Seeking, seek-none, seek-hit, seek-more, seek-end}
 use Rattle.question.specs.Covering.{coversAt}
 use Rattle.question.proofs.first_covering.Statement.{statement}
 use Rattle.question.proofs.first_covering.Tie as tie

@@ -4,7 +4,7 @@ use native.Mathlib.Omega.{arith}
 use denote.Ref.{now}
 use borrow.Author.Needs.{needs}
 use Rattle.join.specs.Check.{atPlayer}
-use Rattle.checks.proofs.Told.{told-at, told-nothing}
+use Rattle.turns.proofs.Told.{told-at, told-nothing}
 use Rattle.verdicts.proofs.Parts.{nothing-found, turn-found}
 use Rattle.verdicts.proofs.at_turn.Statement.{statement}
 use Rattle.verdicts.proofs.at_turn.Tie as tie

@@ -8,8 +8,8 @@ use Rattle.kit.specs.Decides.{to}
 use Rattle.law.specs.Sizes.{mostRounds}
 use Rattle.join.specs.Grid.{firstFrom}
 use Rattle.join.specs.Check.{brokenCell, atPlayer}
+use Rattle.turns.proofs.Told.{told-under}
 use Rattle.checks.specs.Laws.{asLaw, four}
-use Rattle.checks.proofs.Told.{told-under}
 use Rattle.verdicts.specs.Verdict.{asVerdict}
 use Rattle.verdicts.proofs.broken.Statement.{statement}
 use Rattle.verdicts.proofs.broken.Tie as tie

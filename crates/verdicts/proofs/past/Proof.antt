@@ -7,7 +7,7 @@ use Rattle.law.specs.Sizes.{mostRounds}
 use Rattle.law.specs.Refusals.{fileFaultNumber, past-142}
 use Rattle.join.specs.Grid.{firstFrom}
 use Rattle.join.specs.Check.{pastCell, atPlayer}
-use Rattle.checks.proofs.Told.{told-under}
+use Rattle.turns.proofs.Told.{told-under}
 use Rattle.verdicts.proofs.Parts.{nothing-found}
 use Rattle.verdicts.proofs.past.Statement.{statement}
 use Rattle.verdicts.proofs.past.Tie as tie

@@ -8,7 +8,7 @@ use Rattle.law.specs.Sizes.{mostPlayers}
 use Rattle.law.specs.Refusals.{refusal, fileFaultNumber, shared}
 use Rattle.join.specs.Grid.{firstFrom}
 use Rattle.join.specs.Check.{sharedRecord}
-use Rattle.checks.proofs.Told.{told-at, told-nothing, told-under}
+use Rattle.turns.proofs.Told.{told-at, told-nothing, told-under}
 use Rattle.verdicts.proofs.Parts.{nothing-found, one-found}
 use Rattle.verdicts.proofs.sharing.Statement.{statement}
 use Rattle.verdicts.proofs.sharing.Tie as tie

@@ -9,7 +9,7 @@ use borrow.Author.Needs.{needs}
 use Rattle.law.specs.Refusals.{refusal, fileFaultNumber, wrong-sum}
 use Rattle.join.specs.Grid.{firstFrom}
 use Rattle.join.specs.Check.{wrongSum}
-use Rattle.checks.proofs.Told.{told-at, told-nothing, told-under}
+use Rattle.turns.proofs.Told.{told-at, told-nothing, told-under}
 use Rattle.verdicts.specs.Verdict.{asVerdict}
 use Rattle.verdicts.proofs.Parts.{nothing-found, one-found}
 use Rattle.verdicts.proofs.wrong_points.Statement.{statement}

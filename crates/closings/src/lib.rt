@@ -1,0 +1,279 @@
+// What is asked of the cells after the last line without the index: the number of rounds, the first cell past them, the closing pass, what a player earned and
+// the first whose points are not that sum; and the first acceleration record that shares with an earlier one. Promised: each answers what the pure definition
+// of join says. A search is one loop over its cells, player by player and each round by round; the closing pass has a function for one player.
+ghost use mathlib.Core.Path.{_≡_};
+ghost use mathlib.Core.Bool.{true, cond, _&&_};
+ghost use Prim.Native.Nat.{_*_, _≤_, _<_, max};
+ghost use lib.Dec.{eqb, leb};
+ghost use lib.ListN.{length, getD};
+ghost use Rattle.kit.specs.Ascii.{ascii};
+ghost use Rattle.kit.specs.Lists.{among};
+ghost use Rattle.kit.specs.Table.{Holds};
+ghost use Rattle.law.specs.Sizes.{mostPlayers, mostRounds, mostAccelerations};
+ghost use Rattle.law.specs.Accelerations as accelerations;
+ghost use Rattle.law.specs.Tables.{entryCells};
+ghost use Rattle.join.specs.Grid.{firstFrom};
+ghost use Rattle.join.specs.Check.{isSeen, roundSeen, roundsSeen, pastCell, sharedRecord, closing, worthBy, sumAt, wrongSum};
+ghost use Rattle.turns.specs.Found.{asFound};
+ghost use Rattle.closings.specs.Values.{areSmall};
+ghost use Rattle.closings.specs.Closing.{ClosesRow};
+use turns::Found;
+use types::Acceleration;
+use types::MOST_ACCELERATIONS;
+use types::MOST_ROUNDS;
+use types::Place;
+
+// Whether the cell of a turn holds anything.
+fn is_seen(colours: &[u8], k: usize) -> bool
+    requires { ⌜ (k < entryCells) × (entryCells ≤ length (now colours)) ⌝ }
+    ensures { λ r. ⌜ r ≡ isSeen (now (colours .entry)) k ⌝ }
+{
+    let place = turns::place_at(k);
+    let round = turns::round_at(k);
+    let i = tables::cell_of(place, round);
+    colours[i] != 0
+}
+
+// The round of a turn whose cell holds anything, or 0.
+fn round_seen(colours: &[u8], k: usize) -> u32
+    requires { ⌜ (k < entryCells) × (entryCells ≤ length (now colours)) ⌝ }
+    ensures { λ r. ⌜ r ≡ roundSeen (now (colours .entry)) k ⌝ }
+{
+    if is_seen(colours, k) {
+        return turns::round_at(k);
+    }
+    0
+}
+
+fn greater(a: u32, b: u32) -> u32
+    ensures { λ r. ⌜ r ≡ max a b ⌝ }
+{
+    if a < b {
+        return b;
+    }
+    a
+}
+
+// The highest round in which a player has a cell that is not zero, or 0.
+pub fn rounds_seen(colours: &[u8], n: usize) -> u32
+    requires { ⌜ (n ≤ mostPlayers) × (entryCells ≤ length (now colours)) ⌝ }
+    ensures { λ r. ⌜ r ≡ roundsSeen (now (colours .entry)) n ⌝ }
+{
+    let turns = n * MOST_ROUNDS;
+    let mut most = 0;
+    let mut k = 0;
+    while k < turns {
+        most = greater(most, round_seen(colours, k));
+        k += 1;
+    }
+    most
+}
+
+// Whether a turn is past the rounds that there are and its cell holds anything.
+fn is_past(rounds: u32, colours: &[u8], k: usize) -> bool
+    requires { ⌜ (k < entryCells) × (entryCells ≤ length (now colours)) ⌝ }
+    ensures { λ r. ⌜ r ≡ pastCell rounds (now (colours .entry)) k ⌝ }
+{
+    let seen = is_seen(colours, k);
+    let round = turns::round_at(k);
+    (rounds < round) & seen
+}
+
+// The first such turn of n players.
+pub fn first_past(colours: &[u8], n: usize, rounds: u32) -> Found
+    requires { ⌜ (n ≤ mostPlayers) × (entryCells ≤ length (now colours)) ⌝ }
+    ensures { λ r. ⌜ r ≡ asFound (firstFrom (pastCell rounds (now (colours .entry))) 0 (n * mostRounds)) ⌝ }
+{
+    let turns = n * MOST_ROUNDS;
+    let mut k = 0;
+    while k < turns {
+        if is_past(rounds, colours, k) {
+            return Found::At(k);
+        }
+        k += 1;
+    }
+    Found::Nothing
+}
+
+// Whether two ranges have a number in common.
+fn overlap(first: u32, last: u32, first_other: u32, last_other: u32) -> bool
+    ensures { λ r. ⌜ r ≡ accelerations.overlap first last «first_other» «last_other» ⌝ }
+{
+    (first <= last_other) & (first_other <= last)
+}
+
+// Whether two records share a round and a start number.
+fn shares(a: Acceleration, b: Acceleration) -> bool
+    ensures { λ r. ⌜ r ≡ accelerations.shares a b ⌝ }
+{
+    let rounds = overlap(a.first_round, a.last_round, b.first_round, b.last_round);
+    let starts = overlap(a.first_start, a.last_start, b.first_start, b.last_start);
+    rounds & starts
+}
+
+// Whether a record shares with an earlier one.
+fn shares_earlier(records: [Acceleration; MOST_ACCELERATIONS], j: usize) -> bool
+    requires { ⌜ j < mostAccelerations ⌝ }
+    ensures { λ r. ⌜ r ≡ sharedRecord records j ⌝ }
+{
+    let mut found = false;
+    let mut i = 0;
+    while i < j {
+        found = found | shares(records[j], records[i]);
+        i += 1;
+    }
+    found
+}
+
+// The first of n records that shares with an earlier one.
+pub fn first_shared(records: [Acceleration; MOST_ACCELERATIONS], n: usize) -> Found
+    requires { ⌜ n ≤ mostAccelerations ⌝ }
+    ensures { λ r. ⌜ r ≡ asFound (firstFrom (sharedRecord records) 0 n) ⌝ }
+{
+    let mut j = 0;
+    while j < n {
+        if shares_earlier(records, j) {
+            return Found::At(j);
+        }
+        j += 1;
+    }
+    Found::Nothing
+}
+
+// What a cell of a round becomes.
+fn closed(cell: u8, round: u32, rounds: u32, letter: u8) -> u8
+    ensures { λ r. ⌜ r ≡ cond (leb round rounds && eqb cell 0) letter cell ⌝ }
+{
+    if rounds < round {
+        return cell;
+    }
+    if cell == 0 {
+        return letter;
+    }
+    cell
+}
+
+// The closing pass on the cells of one player.
+fn close_row(t: &mut [u8], place: Place, rounds: u32, letter: u8)
+    requires { ⌜ (place .0 < mostPlayers) × (entryCells ≤ length (now t)) ⌝ }
+    ensures { λ _. ⌜ ClosesRow rounds letter (place .0) (now (t .entry)) (now (t .exit)) ⌝ }
+{
+    let mut j = 0;
+    while j < MOST_ROUNDS {
+        let round = j as u32 + 1;
+        let i = tables::cell_of(place, round);
+        t[i] = closed(t[i], round, rounds, letter);
+        j += 1;
+    }
+}
+
+// The closing pass on colours or results: a zero cell of one of n players, up to the last round, becomes the letter.
+pub fn close(t: &mut [u8], n: usize, rounds: u32, letter: u8)
+    requires { ⌜ (n ≤ mostPlayers) × (entryCells ≤ length (now t)) ⌝ }
+    ensures { λ _. ⌜ Holds 0 entryCells (λ i. closing n rounds letter i (getD (now (t .entry)) i 0)) (now (t .entry)) (now (t .exit)) ⌝ }
+{
+    let mut p = 0;
+    while p < n {
+        close_row(t, Place(p as u32), rounds, letter);
+        p += 1;
+    }
+}
+
+// The results that earn each of the values.
+fn earns_win(result: u8) -> bool
+    ensures { λ r. ⌜ r ≡ among result (ascii "1W+F") ⌝ }
+{
+    (result == b'1') | (result == b'W') | (result == b'+') | (result == b'F')
+}
+
+fn earns_draw(result: u8) -> bool
+    ensures { λ r. ⌜ r ≡ among result (ascii "=DH") ⌝ }
+{
+    (result == b'=') | (result == b'D') | (result == b'H')
+}
+
+fn earns_loss(result: u8) -> bool
+    ensures { λ r. ⌜ r ≡ among result (ascii "0L") ⌝ }
+{
+    (result == b'0') | (result == b'L')
+}
+
+fn earns_absent(result: u8) -> bool
+    ensures { λ r. ⌜ r ≡ among result (ascii "-Z") ⌝ }
+{
+    (result == b'-') | (result == b'Z')
+}
+
+fn earns_pairing(result: u8) -> bool
+    ensures { λ r. ⌜ r ≡ among result (ascii "U") ⌝ }
+{
+    result == b'U'
+}
+
+// What a result earns by the values of W D L A P X.
+fn worth(values: [u32; 6], result: u8) -> u32
+    ensures { λ r. ⌜ r ≡ worthBy values result ⌝ }
+{
+    if earns_win(result) {
+        return values[0];
+    }
+    if earns_draw(result) {
+        return values[1];
+    }
+    if earns_loss(result) {
+        return values[2];
+    }
+    if earns_absent(result) {
+        return values[3];
+    }
+    if earns_pairing(result) {
+        return values[4];
+    }
+    0
+}
+
+// What a player earned in the first rounds.
+pub fn sum_of(results: &[u8], values: [u32; 6], place: Place, rounds: u32) -> u32
+    requires { ⌜ (place .0 < mostPlayers) × (rounds ≤ mostRounds) × (entryCells ≤ length (now results)) × (areSmall values ≡ true) ⌝ }
+    ensures { λ r. ⌜ r ≡ sumAt values (now (results .entry)) (place .0) rounds ⌝ }
+{
+    let mut sum = 0;
+    let mut j = 0;
+    while j < rounds {
+        let i = tables::cell_of(place, j + 1);
+        sum += worth(values, results[i]);
+        j += 1;
+    }
+    sum
+}
+
+// Whether a player's stated points are not the sum.
+fn is_wrong_sum(points: &[u32], results: &[u8], values: [u32; 6], place: Place, rounds: u32) -> bool
+    requires { ⌜ (place .0 < mostPlayers) × (rounds ≤ mostRounds) × (mostPlayers ≤ length (now points)) × (entryCells ≤ length (now results)) × (areSmall values ≡ true) ⌝ }
+    ensures { λ r. ⌜ r ≡ wrongSum values (now (points .entry)) (now (results .entry)) rounds (place .0) ⌝ }
+{
+    let sum = sum_of(results, values, place, rounds);
+    let i = tables::own_cell(place);
+    points[i] != sum
+}
+
+// The first player whose stated points are not the sum.
+pub fn first_wrong_sum(
+    points: &[u32],
+    results: &[u8],
+    values: [u32; 6],
+    n: usize,
+    rounds: u32,
+) -> Found
+    requires { ⌜ (n ≤ mostPlayers) × (rounds ≤ mostRounds) × (mostPlayers ≤ length (now points)) × (entryCells ≤ length (now results)) × (areSmall values ≡ true) ⌝ }
+    ensures { λ r. ⌜ r ≡ asFound (firstFrom (wrongSum values (now (points .entry)) (now (results .entry)) rounds) 0 n) ⌝ }
+{
+    let mut p = 0;
+    while p < n {
+        if is_wrong_sum(points, results, values, Place(p as u32), rounds) {
+            return Found::At(p);
+        }
+        p += 1;
+    }
+    Found::Nothing
+}
