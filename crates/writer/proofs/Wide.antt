@@ -10,10 +10,11 @@ use borrow.Author.Tests.{eq-eqb, ne-eqb}
 use Rattle.kit.specs.Lists.{flat}
 use Rattle.law.specs.Sizes.{mostLine, mostPlayers}
 use Rattle.law.specs.Writing.{roundsLine, colourLine}
-use Rattle.renders.specs.Ends.{endText, endWide, endedBy}
-use Rattle.renders.specs.declared.Terminator.{Terminator}
-use Rattle.renders.proofs.Lines.{end-bytes, rounds-wide}
-use Rattle.renders.proofs.Numbers.{one-wide, two-wide}
+use Rattle.puts.specs.Ends.{endText, endWide, endedBy}
+use Rattle.puts.specs.declared.Terminator.{Terminator}
+use Rattle.puts.proofs.Ends.{end-bytes}
+use Rattle.puts.proofs.Numbers.{one-wide, two-wide}
+use Rattle.heads.proofs.Lines.{rounds-wide}
 use Rattle.writer.specs.Report.{colourText}
 
 pub end-one : (end : Terminator) → endWide end ≡ 1

@@ -1,7 +1,7 @@
 -- `writer::put_report` meets its contract. Assumes nothing.
 use native.Mathlib.Omega.{arith}
 use borrow.Author.Needs.{needs}
-use Rattle.renders.proofs.Puts.{puts-then}
+use Rattle.puts.proofs.Puts.{puts-then}
 use Rattle.writer.specs.Report.{reportText}
 use Rattle.writer.proofs.put_report.Statement.{statement}
 use Rattle.writer.proofs.put_report.Tie as tie
