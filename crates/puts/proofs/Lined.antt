@@ -1,7 +1,7 @@
 -- The loops that put one line, or one round, after the other, all of one width: how each begins, one turn, how it ends. Assumes nothing.
 use mathlib.Core.Path.{_≡_, refl, sym, ap, _∙_}
 use mathlib.Core.List.{List, [], _∷_, _++_, map}
-use Prim.Native.Nat.{ℕ, zero, suc, _+_, _*_, _≤_, _<_}
+use Prim.Native.Nat.{ℕ, zero, suc, _+_, _*_, _-_, _≤_, _<_}
 use native.Mathlib.Nat.{zero-mul, suc-mul, mul-le-mul-right}
 use native.Mathlib.Numerals.{add-one}
 use native.Mathlib.Omega.{arith}
@@ -31,6 +31,10 @@ module _ {A : Type 0} {f : A → List ℕ} {w : ℕ} {l : List A} {n at : ℕ} {
       let k = h .put .long in
       omega arith
 
+  -- or for its first bytes, u of them
+  pub lined-front : {y : List ℕ} {j next : ℕ} (u v : ℕ) → w ≡ u + v → Lined f w l n at x y j next → j < n → at + n * w ≤ length x → next + u ≤ length y
+  lined-front {y} {j} {next} u v e h a r = let s = lined-room h a r in omega arith
+
   pub lined-next : {y z : List ℕ} {j next next′ : ℕ} (d : A) → Lined f w l n at x y j next → j < n → n ≤ length l → Puts (f (getD l j d)) w next y z next′ → Lined f w l n at x z (j + 1) next′
   lined-next {y} {z} {j} {next} {next′} d h a b p =
       record {
@@ -52,8 +56,15 @@ from-at i zero k l = absurd (omega arith)
 from-at i (suc n) zero l = omega arith
 from-at i (suc n) (suc k) l = from-at (i + 1) n k (omega arith) ∙ omega arith
 
+pub from-long : (i n : ℕ) → n ≤ length (from i n)
+from-long i n = let e = length-from i n in omega arith
+
 pub take-from : (i n : ℕ) → take n (from i n) ≡ from i n
 take-from i n = take-all n (from i n) (let e = length-from i n in omega arith)
+
+-- one turn more is one turn less to come
+pub turn-less : {i n : ℕ} → i < n → n - (i + 1) < n - i
+turn-less l = omega arith
 
 pub flat-map : {A B C : Type 0} (f : B → List C) (h : A → B) (l : List A) → flat (λ a. f (h a)) l ≡ flat f (map h l)
 unfolding flat

@@ -85,6 +85,18 @@ module _ {a b : List ℕ} {n m at i j : ℕ} {x y z : List ℕ} (p : Puts a n at
             ∙ ap (λ (u : List ℕ). take at x ++ u ++ drop (at + (n + m)) x) (sym (take-all (n + m) (a ++ b) (let w = both-wide in omega arith)));
       }
 
+-- ---- room for what is put next: n bytes are put of n + w, or of n + (m + k), for which there was room
+module _ {a : List ℕ} {n at i : ℕ} {x y : List ℕ} (p : Puts a n at x y i) where
+  pub room-left : (w : ℕ) → at + (n + w) ≤ length x → i + w ≤ length y
+  room-left w r = let l = p .long in let e = p .ends in omega arith
+
+  pub room-next : (m k : ℕ) → at + (n + (m + k)) ≤ length x → i + m ≤ length y
+  room-next m k r = let l = p .long in let e = p .ends in omega arith
+
+-- a field has a column
+pub a-column : (w : ℕ) → 1 ≤ suc w
+a-column w = omega arith
+
 -- one byte more, at the next position, which the code says as k
 pub puts-store : {a : List ℕ} {n at i : ℕ} {x y : List ℕ} → Puts a n at x y i → (k v : ℕ) → k ≡ i → k < length x → Puts (a ++ (v ∷ [])) (n + 1) at x (set y k v) (k + 1)
 puts-store {a} {n} {at} {i} {x} {y} p k v e l = puts-then (puts-as refl refl (sym e) p) (puts-byte (let z = p .long in omega arith))

@@ -4,7 +4,7 @@ use mathlib.Core.List.{List, [], _++_}
 use Prim.Native.Nat.{ℕ}
 use borrow.Author.Needs.{needs}
 use Rattle.law.specs.Writing.{blanks, noughts, filled}
-use Rattle.puts.proofs.Puts.{puts-as, puts-then, puts-last}
+use Rattle.puts.proofs.Puts.{puts-as, puts-then, puts-last, room-left, room-next, a-column}
 use Rattle.heads.proofs.Lines.{span-before}
 use Rattle.heads.proofs.put_acceleration.Statement.{statement}
 use Rattle.heads.proofs.put_acceleration.Tie as tie
@@ -13,22 +13,64 @@ put-code-requires : tie.Need-put-code-requires
 put-code-requires c κs = search needs
 
 put-blanks-requires : tie.Need-put-blanks-requires
-put-blanks-requires c κs = search needs
+put-blanks-requires c κs =
+    let p1 = c .before .before .before in
+    room-next (p1 .put-code .ensures) 6 22 (p1 .before .before .before .pre)
 
 put-points-requires : tie.Need-put-points-requires
-put-points-requires c κs = search needs
+put-points-requires c κs =
+    let p2 = c .before .before .before in
+    let p1 = p2 .before .before .before .before in
+    let r1 = room-left (p1 .put-code .ensures) 28 (p1 .before .before .before .pre) in
+    room-next (p2 .put-blanks .ensures) 4 18 r1
 
 put-blanks-requires-2 : tie.Need-put-blanks-requires-2
-put-blanks-requires-2 c κs = search needs
+put-blanks-requires-2 c κs =
+    let p3 = c .before .before .before in
+    let p2 = p3 .before .before .before .before in
+    let p1 = p2 .before .before .before .before in
+    let r1 = room-left (p1 .put-code .ensures) 28 (p1 .before .before .before .pre) in
+    let r2 = room-left (p2 .put-blanks .ensures) 22 r1 in
+    room-next (p3 .put-points .ensures) 1 17 r2
 
 put-span-requires : tie.Need-put-span-requires
-put-span-requires c κs = search needs
+put-span-requires c κs =
+    let p4 = c .before .before .before in
+    let p3 = p4 .before .before .before .before in
+    let p2 = p3 .before .before .before .before in
+    let p1 = p2 .before .before .before .before in
+    let r1 = room-left (p1 .put-code .ensures) 28 (p1 .before .before .before .pre) in
+    let r2 = room-left (p2 .put-blanks .ensures) 22 r1 in
+    let r3 = room-left (p3 .put-points .ensures) 18 r2 in
+    (a-column 2, room-next (p4 .put-blanks2 .ensures) 7 10 r3)
 
 put-blanks-requires-3 : tie.Need-put-blanks-requires-3
-put-blanks-requires-3 c κs = search needs
+put-blanks-requires-3 c κs =
+    let p5 = c .before .before .before in
+    let p4 = p5 .before .before .before .before in
+    let p3 = p4 .before .before .before .before in
+    let p2 = p3 .before .before .before .before in
+    let p1 = p2 .before .before .before .before in
+    let r1 = room-left (p1 .put-code .ensures) 28 (p1 .before .before .before .pre) in
+    let r2 = room-left (p2 .put-blanks .ensures) 22 r1 in
+    let r3 = room-left (p3 .put-points .ensures) 18 r2 in
+    let r4 = room-left (p4 .put-blanks2 .ensures) 17 r3 in
+    room-next (p5 .put-span .ensures) 1 9 r4
 
 put-span-requires-2 : tie.Need-put-span-requires-2
-put-span-requires-2 c κs = search needs
+put-span-requires-2 c κs =
+    let p6 = c .before .before .before in
+    let p5 = p6 .before .before .before .before in
+    let p4 = p5 .before .before .before .before in
+    let p3 = p4 .before .before .before .before in
+    let p2 = p3 .before .before .before .before in
+    let p1 = p2 .before .before .before .before in
+    let r1 = room-left (p1 .put-code .ensures) 28 (p1 .before .before .before .pre) in
+    let r2 = room-left (p2 .put-blanks .ensures) 22 r1 in
+    let r3 = room-left (p3 .put-points .ensures) 18 r2 in
+    let r4 = room-left (p4 .put-blanks2 .ensures) 17 r3 in
+    let r5 = room-left (p5 .put-span .ensures) 10 r4 in
+    (a-column 3, room-next (p6 .put-blanks3 .ensures) 9 0 r5)
 
 returns : tie.Need-returns
 returns c =

@@ -1,20 +1,14 @@
 -- `player_lines::put_entries` meets its contract. The loop's invariant: the first rounds are put. Assumes nothing.
-use mathlib.Core.Path.{refl}
 use Prim.Native.Nat.{_-_}
-use native.Mathlib.Omega.{arith}
 use denote.Ref.{now}
 use borrow.Author.Needs.{needs}
-use Rattle.kit.specs.Lists.{from}
-use Rattle.kit.proofs.Lists.{length-from}
-use Rattle.puts.proofs.Puts.{puts-as}
-use Rattle.puts.proofs.Lined.{Lined, lined-none, lined-room, lined-next, lined-all}
-use Rattle.player_lines.specs.Lines.{entryWide}
-use Rattle.player_lines.proofs.Rows.{roundText, round-at, rounds-all}
+use Rattle.puts.proofs.Lined.{lined-none, lined-room, turn-less}
+use Rattle.player_lines.proofs.Rows.{Rounds, round-next, rounds-put}
 use Rattle.player_lines.proofs.put_entries.Statement.{statement}
 use Rattle.player_lines.proofs.put_entries.Tie as tie
 
 abbrev Inv-loop : tie.InvT-loop
-Inv-loop out₀ at place rounds opponents colours results next₀ done₀ out next done = Lined (roundText opponents colours results (place .0) rounds) entryWide (from 1 rounds) rounds at out₀ out done next
+Inv-loop out₀ at place rounds opponents colours results next₀ done₀ out next done = Rounds opponents colours results (place .0) rounds at out₀ out done next
 
 abbrev μ-loop : tie.MeasureT-loop
 μ-loop out₀ at place rounds opponents colours results next₀ done₀ out next done = rounds - done
@@ -41,27 +35,26 @@ shared-slice-read-put-entry-2 : tie.Need-shared-slice-read-put-entry-2 Inv-loop 
 shared-slice-read-put-entry-2 c = search needs
 
 put-entry-requires : tie.Need-put-entry-requires Inv-loop μ-loop
-put-entry-requires c κs = lined-room (c .before .before .before .before .before .before .loop .inv) (search needs) (c .before .before .before .before .before .before .before .before .before .before .before .pre .1)
+put-entry-requires c κs = lined-room (c .before .before .before .before .before .before .loop .inv) (c .before .before .before .before .before .loop-test .taken) (c .before .before .before .before .before .before .before .before .before .before .before .pre .1)
 
 add-done : tie.Need-add-done Inv-loop μ-loop
 add-done c = search needs
 
 loop-less : tie.Need-loop-less Inv-loop μ-loop
-loop-less c = search needs
+loop-less c = turn-less (c .before .before .before .before .before .before .before .before .loop-test .taken)
 
 loop-again : tie.Need-loop-again Inv-loop μ-loop
 loop-again c =
     let a = c .before .before .before .before .before .before .before .before .before .before .before .before .before .before .args in
-    let l = length-from 1 (a .rounds) in
-    lined-next 0 (c .before .before .before .before .before .before .before .before .before .loop .inv) (search needs) (omega arith) (puts-as (round-at (now (a .opponents)) (now (a .colours)) (now (a .results)) (a .place .0) (a .rounds) (c .before .before .before .before .before .before .before .before .before .loop .done) (search needs) (c .before .before .before .before .before .before .before .cell-of .ensures .0)) refl refl (c .before .before .put-entry .ensures))
+    round-next (now (a .opponents)) (now (a .colours)) (now (a .results)) (a .place .0) (a .rounds) (c .before .before .before .before .before .before .before .before .before .loop .inv) (c .before .before .before .before .before .before .before .before .loop-test .taken) (c .before .before .before .before .before .before .before .cell-of .ensures .0) (c .before .before .put-entry .ensures)
 
 same-length : tie.Need-same-length Inv-loop μ-loop
-same-length c = search needs
+same-length c = c .before .loop .inv .put .long
 
 returns : tie.Need-returns Inv-loop μ-loop
 returns c =
     let a = c .before .before .before .before .before .before .args in
-    puts-as (rounds-all (now (a .opponents)) (now (a .colours)) (now (a .results)) (a .place .0) (a .rounds)) refl refl (lined-all (c .before .loop .inv) (search needs))
+    rounds-put (now (a .opponents)) (now (a .colours)) (now (a .results)) (a .place .0) (a .rounds) (c .before .loop .inv) (c .loop-test .left)
 
 pub put-entries-spec : {M : Type 1} → statement M
 put-entries-spec =

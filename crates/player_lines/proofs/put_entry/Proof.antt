@@ -1,6 +1,6 @@
 -- `player_lines::put_entry` meets its contract. Assumes nothing.
 use borrow.Author.Needs.{needs}
-use Rattle.puts.proofs.Puts.{puts-then}
+use Rattle.puts.proofs.Puts.{puts-then, room-left, room-next}
 use Rattle.player_lines.proofs.put_entry.Statement.{statement}
 use Rattle.player_lines.proofs.put_entry.Tie as tie
 
@@ -8,13 +8,25 @@ put-blanks-requires : tie.Need-put-blanks-requires
 put-blanks-requires c κs = search needs
 
 put-id-requires : tie.Need-put-id-requires
-put-id-requires c κs = search needs
+put-id-requires c κs =
+    let p1 = c .before .before .before in
+    room-next (p1 .put-blanks .ensures) 4 4 (p1 .before .before .before .pre)
 
 put-letter-requires : tie.Need-put-letter-requires
-put-letter-requires c κs = search needs
+put-letter-requires c κs =
+    let p2 = c .before .before .before in
+    let p1 = p2 .before .before .before .before in
+    let r1 = room-left (p1 .put-blanks .ensures) 8 (p1 .before .before .before .pre) in
+    room-next (p2 .put-id .ensures) 2 2 r1
 
 put-letter-requires-2 : tie.Need-put-letter-requires-2
-put-letter-requires-2 c κs = search needs
+put-letter-requires-2 c κs =
+    let p3 = c .before .before .before in
+    let p2 = p3 .before .before .before .before in
+    let p1 = p2 .before .before .before .before in
+    let r1 = room-left (p1 .put-blanks .ensures) 8 (p1 .before .before .before .pre) in
+    let r2 = room-left (p2 .put-id .ensures) 4 r1 in
+    room-next (p3 .put-letter .ensures) 2 0 r2
 
 returns : tie.Need-returns
 returns c =
