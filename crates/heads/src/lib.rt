@@ -1,6 +1,5 @@
 // The lines before the players': 142, 152, 162 and 250, each put into the lent output from a position on, which is answered moved past it. Promised: the bytes
 // are the statement's line, and every byte outside them, and the output's length, are as before. `records` and `scorings` read what is put here.
-ghost use mathlib.Core.Path.{_≡_};
 ghost use mathlib.Core.List.{map};
 ghost use Prim.Native.Nat.{_+_, _*_, _≤_};
 ghost use lib.ListN.{length, take};

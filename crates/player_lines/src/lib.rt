@@ -1,6 +1,5 @@
 // The players' lines: 001 with its rounds, put into the lent output from a position on, which is answered moved past it. Promised: the bytes are the
 // statement's line of the player that the cells say, and every byte outside them, and the output's length, are as before. `rows` reads what is put here.
-ghost use mathlib.Core.Path.{_≡_};
 ghost use mathlib.Core.List.{map};
 ghost use Prim.Native.Nat.{suc, _+_, _*_, _≤_, _<_};
 ghost use lib.ListN.{length, take, drop};

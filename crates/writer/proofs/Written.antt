@@ -1,5 +1,5 @@
--- From the cells to the statement: what a writing puts, part by part; and that tables which hold a lawful tournament say its players, its acceleration records
--- and its text. With these a caller turns what the functions here promise into `written`. Assumes nothing.
+-- From the cells to the statement: what a writing puts, part by part, is `written`, and how long that is; and that tables which hold a lawful tournament say
+-- its players, its acceleration records and its text. Assumes nothing.
 use mathlib.Core.Path.{_≡_, refl, sym, ap, ap₂, _∙_}
 use mathlib.Core.Bool.{true}
 use mathlib.Core.List.{List, _∷_, _++_, map}
