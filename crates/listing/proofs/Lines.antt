@@ -3,7 +3,7 @@
 use mathlib.Core.Path.{_≡_, refl, sym, ap, _∙_, subst}
 use mathlib.Core.Bool.{Bool, cond}
 use mathlib.Core.List.{List, [], _∷_, _++_}
-use Prim.Native.Nat.{ℕ, _+_, _*_, _≤_}
+use Prim.Native.Nat.{ℕ, _+_, _*_, _≤_, _<_}
 use native.Mathlib.Nat.{zero-add, le-antisymm}
 use native.Mathlib.Numerals.{add-one}
 use native.Mathlib.Omega.{arith}
@@ -12,10 +12,11 @@ use lib.ListN.{length, getD}
 use lib.Seq.{paste}
 use borrow.Author.Tests.{eq-eqb, ne-eqb}
 use Rattle.types.specs.declared.Answer.{Answer}
+use Rattle.law.specs.Sizes.{mostRounds}
 use Rattle.law.specs.Tables.{cellOf}
 use Rattle.listing.specs.Put.{Put}
 use Rattle.listing.specs.Listing.{Six, entryField, entryFields, standing, playerLine, playerLines, acceptedListing, refusedListing, listing, mostPlayerLine}
-use Rattle.listing.proofs.Puts.{put-none, put-then}
+use Rattle.listing.proofs.Puts.{put-none, put-long, put-then}
 
 -- ---- a player's fields
 module _ (opponents colours results : List ℕ) (place : ℕ) {at : ℕ} {t : List ℕ} where
@@ -46,6 +47,21 @@ player-line x rounds place i {at} {t} {e} {u} q p f l =
     put-then
     (put-then (subst (λ (k : ℕ). Put (standing (getD (x .starts) k 0) (getD (x .points) k 0) (getD (x .ranks) k 0)) at t e u) q p) f)
     l
+
+-- room in a player's line for its standing, its entries and its last byte, and where it ends
+pub standing-room : {l : ℕ} (at : ℕ) → at + mostPlayerLine ≤ l → at + 32 ≤ l
+standing-room at r = omega arith
+
+module _ {a : List ℕ} {at : ℕ} {t : List ℕ} {e : ℕ} {u : List ℕ} {rounds : ℕ} (p : Put a at t e u) (s : e ≤ at + 32) (few : rounds ≤ mostRounds) where
+  pub entries-room : at + mostPlayerLine ≤ length t → e + 13 * rounds ≤ length u
+  entries-room r = let l = put-long p in omega arith
+
+  module _ {b : List ℕ} {e′ : ℕ} {u′ : List ℕ} (q : Put b e u e′ u′) (f : e′ ≤ e + 13 * rounds) where
+    pub last-room : at + mostPlayerLine ≤ length t → e′ < length u′
+    last-room r = let l = put-long p in let k = put-long q in omega arith
+
+    pub line-ends : {e″ : ℕ} → e″ ≡ e′ + 1 → e″ ≤ at + mostPlayerLine
+    line-ends g = omega arith
 
 -- ---- the players' lines
 module _ (x : Six) (rounds : ℕ) {at : ℕ} {t : List ℕ} where

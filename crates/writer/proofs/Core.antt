@@ -19,12 +19,12 @@ use Rattle.readings.specs.Good.{GoodReading}
 use Rattle.readings.proofs.Answers.{write-short, write-unread, write-room, write-whole}
 use Rattle.lawful.specs.Given.{Given, over, roomsBy}
 use Rattle.lawful.proofs.Lent.{lent-short, lent-long, first-records, lent-good, lent-bad}
-use Rattle.renders.specs.Puts.{Puts}
-use Rattle.renders.specs.Ends.{endedBy}
-use Rattle.renders.specs.Rows.{sevenOf, playersIn}
-use Rattle.renders.specs.declared.Terminator.{Terminator}
-use Rattle.renders.specs.declared.Terminator.the-variants as terminator
-use Rattle.renders.proofs.Puts.{puts-as, puts-holds}
+use Rattle.puts.specs.Puts.{Puts}
+use Rattle.puts.specs.Ends.{endedBy}
+use Rattle.puts.specs.declared.Terminator.{Terminator}
+use Rattle.puts.specs.declared.Terminator.the-variants as terminator
+use Rattle.puts.proofs.Puts.{puts-as, puts-holds}
+use Rattle.player_lines.specs.Rows.{sevenOf, playersIn}
 use Rattle.writer.specs.Report.{Fit, headsText, reportText, reportWide}
 use Rattle.writer.proofs.Report.{good-fit, report-is, report-wide}
 

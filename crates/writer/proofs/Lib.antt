@@ -1,3 +1,4 @@
 pub mod Wide
+pub mod Written
 pub mod Report
 pub mod Core

@@ -18,12 +18,13 @@ use Rattle.readings.specs.Good.{GoodReading}
 use Rattle.readings.specs.Held.{held}
 use Rattle.readings.proofs.HeldPlayers.{players-long}
 use Rattle.readings.proofs.Whole.{good-has}
-use Rattle.renders.specs.Lines.{scoringIn, scoringWide, accelerationWide, playerWide}
-use Rattle.renders.specs.Ends.{asEnd, endWide, endedBy}
-use Rattle.renders.specs.Rows.{Long, sevenOf, entriesIn, playerIn, playersIn}
-use Rattle.renders.specs.declared.Terminator.{Terminator}
-use Rattle.renders.proofs.Written.{written-parts, written-wide, text-ended}
+use Rattle.puts.specs.Ends.{asEnd, endWide, endedBy}
+use Rattle.puts.specs.declared.Terminator.{Terminator}
+use Rattle.heads.specs.Lines.{scoringIn, scoringWide, accelerationWide}
+use Rattle.player_lines.specs.Lines.{playerWide}
+use Rattle.player_lines.specs.Rows.{Long, sevenOf, entriesIn, playerIn, playersIn}
 use Rattle.writer.specs.Report.{Fit, colourText, headsText, reportText, reportWide}
+use Rattle.writer.proofs.Written.{written-parts, written-wide, text-ended}
 
 pub good-fit : {a : Answer} {t : Tables} → GoodReading a t → Fit a
 good-fit g = record { players = g .answer .players-fit; rounds = g .answer .rounds-fit; accelerations = g .answer .accelerations-fit; text = g .answer .text-fits }

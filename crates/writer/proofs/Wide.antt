@@ -8,12 +8,16 @@ use native.Mathlib.Omega.{arith}
 use lib.ListN.{length, length-append}
 use borrow.Author.Tests.{eq-eqb, ne-eqb}
 use Rattle.kit.specs.Lists.{flat}
+use Rattle.types.specs.declared.Answer.{Answer}
 use Rattle.law.specs.Sizes.{mostLine, mostPlayers}
 use Rattle.law.specs.Writing.{roundsLine, colourLine}
-use Rattle.renders.specs.Ends.{endText, endWide, endedBy}
-use Rattle.renders.specs.declared.Terminator.{Terminator}
-use Rattle.renders.proofs.Lines.{end-bytes, rounds-wide}
-use Rattle.renders.proofs.Numbers.{one-wide, two-wide}
+use Rattle.puts.specs.Ends.{endText, endWide, endedBy}
+use Rattle.puts.specs.declared.Terminator.{Terminator}
+use Rattle.puts.proofs.Ends.{end-bytes}
+use Rattle.puts.proofs.Numbers.{one-wide, two-wide}
+use Rattle.heads.specs.Lines.{accelerationWide}
+use Rattle.heads.proofs.Lines.{rounds-wide}
+use Rattle.player_lines.specs.Lines.{playerWide}
 use Rattle.writer.specs.Report.{colourText}
 
 pub end-one : (end : Terminator) → endWide end ≡ 1
@@ -38,6 +42,20 @@ module _ (colour : ℕ) (end : Terminator) where
 
   pub known-wide : (colour ≡ 0 → ⊥) → length (colourText colour end) ≡ 5 + endWide end
   known-wide e = ap length (colour-known e) ∙ length-append (colourLine colour) (endText end)
+
+-- ---- the parts of a report after its heads, and the room from the output's first byte on
+module _ (a : Answer) (end : Terminator) where
+  abbrev pub recordsWide : ℕ
+  recordsWide = a .accelerations * (accelerationWide + endWide end)
+
+  abbrev pub playersWide : ℕ
+  playersWide = a .players * (playerWide (a .rounds) + endWide end)
+
+pub room-whole : {w l : ℕ} → w ≤ l → 0 + w ≤ l
+room-whole r = omega arith
+
+pub room-front : {l : ℕ} (m k : ℕ) → m + k ≤ l → 0 + m ≤ l
+room-front m k r = omega arith
 
 -- ---- lines of one width
 pub few-wide : (n w : ℕ) → n ≤ mostPlayers → w ≤ mostLine + mostLine → n * w ≤ mostPlayers * (mostLine + mostLine)

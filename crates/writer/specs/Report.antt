@@ -7,10 +7,11 @@ use Rattle.types.specs.declared.Answer.{Answer}
 use Rattle.law.specs.Sizes.{mostPlayers, mostRounds, mostAccelerations, mostText}
 use Rattle.law.specs.Tables.{Tables}
 use Rattle.law.specs.Writing.{roundsLine, colourLines, scoringLine, accelerationLine, playerLine}
-use Rattle.renders.specs.Lines.{accelerationWide, scoringIn, scoringWide, playerWide}
-use Rattle.renders.specs.Ends.{endWide, endedBy}
-use Rattle.renders.specs.Rows.{sevenOf, playersIn}
-use Rattle.renders.specs.declared.Terminator.{Terminator}
+use Rattle.puts.specs.Ends.{endWide, endedBy}
+use Rattle.puts.specs.declared.Terminator.{Terminator}
+use Rattle.heads.specs.Lines.{accelerationWide, scoringIn, scoringWide}
+use Rattle.player_lines.specs.Lines.{playerWide}
+use Rattle.player_lines.specs.Rows.{sevenOf, playersIn}
 
 -- counts that a reading can have
 pub record Fit (a : Answer) : Type 0 where

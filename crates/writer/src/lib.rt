@@ -10,11 +10,11 @@ ghost use Rattle.law.specs.Refusals.{refusal, noRefusal};
 ghost use Rattle.law.specs.Calls.{writtenAnswer, Writes};
 ghost use Rattle.types.specs.declared.Acceleration as lists;
 ghost use Rattle.lawful.specs.Given.{tablesOf, Given};
-ghost use Rattle.renders.specs.Puts.{Puts};
-ghost use Rattle.renders.specs.Ends.{endWide};
-ghost use Rattle.renders.specs.Rows.{Long, lent};
+ghost use Rattle.puts.specs.Puts.{Puts};
+ghost use Rattle.puts.specs.Ends.{endWide};
+ghost use Rattle.player_lines.specs.Rows.{Long, lent};
 ghost use Rattle.writer.specs.Report.{Fit, colourText, headsText, headsWide, reportText, reportWide};
-use renders::Terminator;
+use puts::Terminator;
 use types::Acceleration;
 use types::Answer;
 use types::LineNumber;
@@ -37,7 +37,7 @@ const PLAYER_HEAD: usize = 89;
 
 const PLAYER_ROUND: usize = 10;
 
-// How many bytes end a line; `renders::put_end` puts them.
+// How many bytes end a line; `puts::put_end` puts them.
 fn end_wide(end: Terminator) -> usize
     ensures { λ r. ⌜ (r ≡ endWide end) × (r ≤ mostLine) ⌝ }
 {
@@ -97,8 +97,8 @@ fn put_known(out: &mut [u8], at: usize, colour: u8, end: Terminator) -> usize
     if colour == 0 {
         return at;
     }
-    let at = renders::put_colour(out, at, colour);
-    renders::put_end(out, at, end)
+    let at = heads::put_colour(out, at, colour);
+    puts::put_end(out, at, end)
 }
 
 // 142, 152 if the colour is known, and 162.
@@ -113,11 +113,11 @@ fn put_heads(
     requires { ⌜ (rounds ≤ mostRounds) × (at + headsWide rounds colour end ≤ length (now out)) ⌝ }
     ensures { λ r. ⌜ Puts (headsText rounds colour values end) (headsWide rounds colour end) at (now (out .entry)) (now (out .exit)) r ⌝ }
 {
-    let at = renders::put_rounds(out, at, rounds);
-    let at = renders::put_end(out, at, end);
+    let at = heads::put_rounds(out, at, rounds);
+    let at = puts::put_end(out, at, end);
     let at = put_known(out, at, colour, end);
-    let at = renders::put_scoring(out, at, values);
-    renders::put_end(out, at, end)
+    let at = heads::put_scoring(out, at, values);
+    puts::put_end(out, at, end)
 }
 
 // The report file of a reading.
@@ -141,11 +141,11 @@ fn put_report(
     ensures { λ r. ⌜ Puts (reportText answer (tablesOf (now (starts .entry)) (now (points .entry)) (now (ranks .entry)) (now (kept .entry)) (now (opponents .entry)) (now (colours .entry)) (now (results .entry)) (now (text .entry)) all) end) (reportWide answer end) 0 (now (out .entry)) (now (out .exit)) r ⌝ }
 {
     let values = answer.values;
-    let at = renders::put_part(out, 0, text, 0, answer.text);
+    let at = puts::put_part(out, 0, text, 0, answer.text);
     let at = put_heads(out, at, answer.rounds, answer.colour, values, end);
     let records = answer.accelerations as usize;
-    let at = renders::put_accelerations(out, at, all, records, end);
-    renders::put_players(
+    let at = heads::put_accelerations(out, at, all, records, end);
+    player_lines::put_players(
         out,
         at,
         answer.players,

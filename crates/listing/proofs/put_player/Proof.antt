@@ -1,12 +1,13 @@
 -- `listing::put_player` meets its contract. Assumes nothing.
 use borrow.Author.Needs.{needs}
-use Rattle.listing.proofs.Lines.{player-line}
+use Rattle.listing.proofs.Lines.{player-line, standing-room, entries-room, last-room, line-ends}
+use Rattle.listing.proofs.Puts.{put-long}
 use Rattle.listing.specs.Listing.{six}
 use Rattle.listing.proofs.put_player.Statement.{statement}
 use Rattle.listing.proofs.put_player.Tie as tie
 
 own-cell-requires : tie.Need-own-cell-requires
-own-cell-requires c κs = search needs
+own-cell-requires c κs = c .before .before .before .before .before .before .before .pre .1 .0 .0
 
 mul-put-standing : tie.Need-mul-put-standing
 mul-put-standing c = search needs
@@ -27,24 +28,34 @@ shared-slice-read-put-standing-3 : tie.Need-shared-slice-read-put-standing-3
 shared-slice-read-put-standing-3 c = search needs
 
 put-standing-requires : tie.Need-put-standing-requires
-put-standing-requires c κs = search needs
+put-standing-requires c κs = let s = c .before .before .before .before .before .before .before .before .before .before .before .before in standing-room (s .args .at) (s .pre .0)
 
 put-entries-requires : tie.Need-put-entries-requires
-put-entries-requires c κs = search needs
+put-entries-requires c κs =
+    let p = c .before .before .before .before .before .before .before .before .before .before .before .before .before .before .before .before .pre in
+    let e = c .before .before .before .put-standing .ensures in
+    let l = p .1 .1 in
+    (entries-room (e .0) (e .1) (p .1 .0 .1) (p .0), (p .1 .0, (l .opponents, l .colours, l .results)))
 
 put-byte-requires : tie.Need-put-byte-requires
-put-byte-requires c κs = search needs
-
-same-length : tie.Need-same-length
-same-length c = search needs
+put-byte-requires c κs =
+    let p = c .before .before .before .before .before .before .before .before .before .before .before .before .before .before .before .before .before .before .before .before .pre in
+    let e = c .before .before .before .before .before .before .before .put-standing .ensures in
+    let f = c .before .before .before .put-entries .ensures in
+    last-room (e .0) (e .1) (p .1 .0 .1) (f .0) (f .1) (p .0)
 
 returns : tie.Need-returns
 returns c =
-    let s : tie.Start = c .before .before .before .before .before .before .before .before .before .before .before .before .before .before .before .before .before .before .before .before .before .before .before in (
-      player-line (six (s .args .starts .now) (s .args .points .now) (s .args .ranks .now) (s .args .opponents .now) (s .args .colours .now) (s .args .results .now)) (s .args .rounds) (s .args .place .0) _ (c .before .before .before .before .before .before .before .before .before .before .before .before .before .before .before .own-cell .ensures .0) (c .before .before .before .before .before .before .before .before .before .before .put-standing .ensures .0) (c .before .before .before .before .before .before .put-entries .ensures .0)
-          (c .before .before .put-byte .ensures .0),
-      search needs,
+    let s : tie.Start = c .before .before .before .before .before .before .before .before .before .before .before .before .before .before .before .before .before .before .before .before .before .before .before in
+    let e = c .before .before .before .before .before .before .before .before .before .before .put-standing .ensures in
+    let f = c .before .before .before .before .before .before .put-entries .ensures in
+    let g = c .before .before .put-byte .ensures in (
+      player-line (six (s .args .starts .now) (s .args .points .now) (s .args .ranks .now) (s .args .opponents .now) (s .args .colours .now) (s .args .results .now)) (s .args .rounds) (s .args .place .0) _ (c .before .before .before .before .before .before .before .before .before .before .before .before .before .before .before .own-cell .ensures .0) (e .0) (f .0) (g .0),
+      line-ends (e .0) (e .1) (s .pre .1 .0 .1) (f .0) (f .1) (g .1),
     )
+
+same-length : tie.Need-same-length
+same-length c = put-long (returns c .0)
 
 pub put-player-spec : {M : Type 1} → statement M
 put-player-spec =

@@ -1,6 +1,6 @@
 -- `writer::put_heads` meets its contract. Assumes nothing.
 use borrow.Author.Needs.{needs}
-use Rattle.renders.proofs.Puts.{puts-then}
+use Rattle.puts.proofs.Puts.{puts-then}
 use Rattle.writer.proofs.put_heads.Statement.{statement}
 use Rattle.writer.proofs.put_heads.Tie as tie
 

@@ -3,7 +3,7 @@ use mathlib.Core.Path.{refl, sym, ap}
 use native.Mathlib.Omega.{arith}
 use lib.ListN.{length}
 use borrow.Author.Needs.{needs}
-use Rattle.renders.proofs.Puts.{puts-as, puts-none, puts-then}
+use Rattle.puts.proofs.Puts.{puts-as, puts-none, puts-then}
 use Rattle.writer.proofs.Wide.{colour-none, colour-known, known-wide}
 use Rattle.writer.proofs.put_known.Statement.{statement}
 use Rattle.writer.proofs.put_known.Tie as tie

@@ -1,35 +1,46 @@
 -- `writer::put_report` meets its contract. Assumes nothing.
-use native.Mathlib.Omega.{arith}
+use Prim.Native.Nat.{_+_}
+use native.Mathlib.Nat.{le-trans}
 use borrow.Author.Needs.{needs}
-use Rattle.renders.proofs.Puts.{puts-then}
-use Rattle.writer.specs.Report.{reportText}
+use Rattle.puts.proofs.Puts.{puts-then, room-left, room-next}
+use Rattle.writer.specs.Report.{headsWide, reportText}
+use Rattle.writer.proofs.Wide.{recordsWide, playersWide, room-whole, room-front}
 use Rattle.writer.proofs.put_report.Statement.{statement}
 use Rattle.writer.proofs.put_report.Tie as tie
 
 put-part-requires : tie.Need-put-part-requires
-put-part-requires c κs = search needs
+put-part-requires c κs =
+    let s = c .before .before .before .before .before .before .before .before .before .before .before in
+    let p = s .pre in
+    let a = s .args .answer in
+    (room-front (a .text) (headsWide (a .rounds) (a .colour) (s .args .end) + (recordsWide a (s .args .end) + playersWide a (s .args .end))) (p .1 .1), room-whole (le-trans (p .0 .text) (p .1 .0 .1)))
 
 put-heads-requires : tie.Need-put-heads-requires
-put-heads-requires c κs = search needs
+put-heads-requires c κs =
+    let s = c .before .before .before .before .before .before .before .before .before .before .before .before .before .before .before in
+    let p = s .pre in
+    let a = s .args .answer in
+    (p .0 .rounds, room-next (c .before .before .before .put-part .ensures) (headsWide (a .rounds) (a .colour) (s .args .end)) (recordsWide a (s .args .end) + playersWide a (s .args .end)) (room-whole (p .1 .1)))
 
 cast-records : tie.Need-cast-records
 cast-records c = search needs
 
 put-accelerations-requires : tie.Need-put-accelerations-requires
-put-accelerations-requires c κs = search needs
+put-accelerations-requires c κs =
+    let s = c .before .before .before .before .before .before .before .before .before .before .before .before .before .before .before .before .before .before .before .before in
+    let p = s .pre in
+    let a = s .args .answer in
+    let r = room-left (c .before .before .before .before .before .before .before .before .put-part .ensures) (headsWide (a .rounds) (a .colour) (s .args .end) + (recordsWide a (s .args .end) + playersWide a (s .args .end))) (room-whole (p .1 .1)) in
+    (p .0 .accelerations, room-next (c .before .before .before .before .put-heads .ensures) (recordsWide a (s .args .end)) (playersWide a (s .args .end)) r)
 
 put-players-requires : tie.Need-put-players-requires
 put-players-requires c κs =
-    let p3 = c .before .before .before in
-    let p2 = p3 .before .before .before .before .before in
-    let p1 = p2 .before .before .before .before in
-    let p = p1 .before .before .before .before .before .before .before .before .before .before .before .before .pre in
-    let e3 = p3 .put-accelerations .ensures in
-    let e2 = p2 .put-heads .ensures in
-    let e1 = p1 .put-part .ensures in
-    let f = p .0 in
-    let r = p .1 .1 in
-    (p .1 .0 .0, (f .players, f .rounds, omega arith))
+    let s = c .before .before .before .before .before .before .before .before .before .before .before .before .before .before .before .before .before .before .before .before .before .before .before .before in
+    let p = s .pre in
+    let a = s .args .answer in
+    let r1 = room-left (c .before .before .before .before .before .before .before .before .before .before .before .before .put-part .ensures) (headsWide (a .rounds) (a .colour) (s .args .end) + (recordsWide a (s .args .end) + playersWide a (s .args .end))) (room-whole (p .1 .1)) in
+    let r2 = room-left (c .before .before .before .before .before .before .before .before .put-heads .ensures) (recordsWide a (s .args .end) + playersWide a (s .args .end)) r1 in
+    (p .1 .0 .0, (p .0 .players, p .0 .rounds, room-left (c .before .before .before .put-accelerations .ensures) (playersWide a (s .args .end)) r2))
 
 returns : tie.Need-returns
 unfolding reportText

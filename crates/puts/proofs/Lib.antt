@@ -1,0 +1,5 @@
+pub mod Puts
+pub mod Numbers
+pub mod Turns
+pub mod Ends
+pub mod Lined

@@ -1,4 +1,0 @@
-pub mod Puts
-pub mod Lines
-pub mod Ends
-pub mod Rows
