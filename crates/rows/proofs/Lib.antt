@@ -2,3 +2,4 @@ pub mod PlayerRounds
 pub mod Reach
 pub mod PlayerLines
 pub mod ShortLines
+pub mod Letters

@@ -1,16 +1,20 @@
 -- What the readers of a 001 line answer: document 01's number and values for each case of their enum, and of the structs that stand in for one.
 use mathlib.Core.Path.{_≡_}
 use mathlib.Core.Bool.{true, false}
-use mathlib.Core.Option.{Option}
+use mathlib.Core.Option.{Option, some}
 use mathlib.Core.List.{List, map}
 use Prim.Native.Nat.{ℕ, _+_, _*_, _≤_, _<_}
 use lib.ListN.{length, getD, replicate}
+use Rattle.kit.specs.Lists.{among}
+use Rattle.kit.specs.Decides.{keep}
 use Rattle.law.specs.Sizes.{mostRounds}
 use Rattle.law.specs.Columns.{blank}
 use Rattle.law.specs.Players as law
 use Rattle.law.specs.Tournament.{Entry}
 use Rattle.join.specs.Store.{rawCell, rawCells}
 use Rattle.fields.specs.Said.{Said, says, refuses, Stands}
+use Rattle.rows.specs.declared.Letter.{Letter}
+use Rattle.rows.specs.declared.Letter.the-variants as letter
 use Rattle.rows.specs.declared.Slot.{Slot}
 use Rattle.rows.specs.declared.Slot.the-variants as slot
 use Rattle.rows.specs.declared.Slots.{Slots}
@@ -28,6 +32,14 @@ pub record Reaches (line : List ℕ) (reach : ℕ) : Type 0 where
   pub most : reach ≤ mostRounds
   pub long : roundsEnd reach ≤ length line
   pub blank-on : (i : ℕ) → roundsEnd reach ≤ i → i < playerColumns → getD line i blank ≡ blank
+
+-- a result's letter
+abbrev pub letterSays : Letter → Said ℕ
+letterSays (letter.Value c) = says c
+letterSays letter.Bad = refuses 7
+
+abbrev pub resultIn : ℕ → Option ℕ
+resultIn code = keep (λ c. among c law.slotResults) (some (law.capital code))
 
 -- a round as it is stored
 abbrev pub slotSays : Slot → Said Entry

@@ -9,7 +9,7 @@ use types::MOST_START;
 use types::Rank;
 use types::StartNumber;
 ghost use mathlib.Core.Path.{_≡_};
-ghost use mathlib.Core.Bool.{not};
+ghost use mathlib.Core.Bool.{not, _&&_};
 ghost use mathlib.Core.List.{[], _∷_, _++_};
 ghost use Prim.Native.Nat.{_+_, _-_, _≤_, _<_};
 ghost use lib.ListN.{length, replicate};
@@ -22,7 +22,7 @@ ghost use Rattle.law.specs.Tournament.{blankAs, normal};
 ghost use Rattle.law.proofs.RecordsRead.{slotOf, slotsOf, playerOf};
 ghost use Rattle.join.specs.Store.{rawCell};
 ghost use Rattle.fields.specs.Said.{says, orBadField};
-ghost use Rattle.rows.specs.Rows.{roundsEnd, playerColumns, Reaches, slotSays, bye, noSlots, SlotsSay, noRow, RowSays};
+ghost use Rattle.rows.specs.Rows.{roundsEnd, playerColumns, Reaches, letterSays, resultIn, slotSays, bye, noSlots, SlotsSay, noRow, RowSays};
 
 // The columns up to the last round's result.
 const COLUMNS: usize = 89 + 10 * MOST_ROUNDS;
@@ -30,6 +30,12 @@ const COLUMNS: usize = 89 + 10 * MOST_ROUNDS;
 // A round's columns on a 001 line as they are stored: opponent, colour, result; zeros where no byte of them is other than blank.
 enum Slot {
     Read(u32, u8, u8),
+    Bad,
+}
+
+// A result's letter, as a capital.
+enum Letter {
+    Value(u8),
     Bad,
 }
 
@@ -85,6 +91,20 @@ fn is_slot_result(c: u8) -> bool
     }
 }
 
+// The result of a round. Most stand as capitals or signs, so that this is asked first.
+fn result_of(code: u8) -> Letter
+    ensures { λ r. ⌜ letterSays r ≡ orBadField (resultIn code) ⌝ }
+{
+    if is_slot_result(code) {
+        return Letter::Value(code);
+    }
+    let result = capital(code);
+    if !is_slot_result(result) {
+        return Letter::Bad;
+    }
+    Letter::Value(result)
+}
+
 // Whether a round whose id is blank has a byte that is not.
 fn is_used(colour: u8, code: u8) -> bool
     ensures { λ r. ⌜ r ≡ not (all isBlank (colour ∷ code ∷ [])) ⌝ }
@@ -119,10 +139,9 @@ fn slot_of(line: &[u8], round: usize) -> Slot
         return Slot::Bad;
     }
     let code = line[at + 7];
-    let result = capital(code);
-    if !is_slot_result(result) {
+    let Letter::Value(result) = result_of(code) else {
         return Slot::Bad;
-    }
+    };
     let n = fields::number_of(line[at], line[at + 1], line[at + 2], line[at + 3]);
     let Number::Value(opponent) = n else {
         let Number::Blank = n else {
@@ -182,15 +201,29 @@ fn blank_column(line: &[u8], i: usize) -> bool
     line[i] == b' '
 }
 
+// Two blanks as one number, the first byte the lower.
+const TWO_BLANKS: u32 = 0x2020;
+
+fn are_blank(a: u8, b: u8) -> bool
+    ensures { λ r. ⌜ r ≡ isBlank a && isBlank b ⌝ }
+{
+    a as u32 + 256 * (b as u32) == TWO_BLANKS
+}
+
+// The same of two columns.
+fn blank_pair(line: &[u8], i: usize) -> bool
+    requires { ⌜ i + 1 < length (now line) ⌝ }
+    ensures { λ r. ⌜ r ≡ all isBlank (cells (now (line .entry)) i 2) ⌝ }
+{
+    are_blank(line[i], line[i + 1])
+}
+
 // Whether a round's columns between its fields, and those before it, are blank.
 fn round_else_blank(line: &[u8], at: usize) -> bool
     requires { ⌜ at + 8 < length (now line) ⌝ }
     ensures { λ r. ⌜ r ≡ conj (all isBlank (cells (now (line .entry)) at 2) ∷ all isBlank (cells (now (line .entry)) (at + 6) 1) ∷ all isBlank (cells (now (line .entry)) (at + 8) 1) ∷ []) ⌝ }
 {
-    if !blank_column(line, at) {
-        return false;
-    }
-    if !blank_column(line, at + 1) {
+    if !blank_pair(line, at) {
         return false;
     }
     if !blank_column(line, at + 6) {

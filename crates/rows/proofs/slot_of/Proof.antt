@@ -1,9 +1,12 @@
 -- `rows::slot_of` meets its contract: at each answer the columns read so far say what the round is. Assumes nothing.
-use mathlib.Core.Path.{sym, ap, _∙_}
+use mathlib.Core.Path.{refl, sym, ap, _∙_}
 use borrow.Author.Tests.{not-true, not-false}
+use Rattle.law.specs.Players.{capital}
 use Rattle.law.proofs.FieldsRead.{numberOf}
 use Rattle.fields.specs.Fields.{numberSays}
 use Rattle.fields.proofs.Cases.{is-value, is-blank, is-bad}
+use Rattle.rows.specs.Rows.{letterSays}
+use Rattle.rows.proofs.Letters.{codeAt, letter-said, letter-not}
 use Rattle.rows.proofs.PlayerRounds.{idBytes, colour-bad, result-bad, id-bad, wholly-blank, id-blank, id-zero, id-other}
 use borrow.Author.Needs.{needs}
 use Rattle.rows.proofs.slot_of.Statement.{statement}
@@ -35,16 +38,19 @@ add-code c = search needs
 shared-slice-read-code : tie.Need-shared-slice-read-code
 shared-slice-read-code c = search needs
 
-capital-requires : tie.Need-capital-requires
-capital-requires c κs = tt
+result-of-requires : tie.Need-result-of-requires
+result-of-requires c κs = tt
 
-is-slot-result-requires : tie.Need-is-slot-result-requires
-is-slot-result-requires c κs = tt
+enum-known-result : tie.Need-enum-known-result
+enum-known-result c = search needs
+
+enum-told : tie.Need-enum-told
+enum-told c = search needs
 
 returns-2 : tie.Need-returns-2
 returns-2 c =
     let p = c .before .before .before .before .before .before .before .before in
-    result-bad (p .args .line .now) (p .args .round) (p .pre .0) (p .pre .2) (c .before .before .capital .result) (c .before .before .capital .ensures) (sym (c .before .before .before .before .before .is-slot-colour .ensures) ∙ not-false _ (c .before .before .before .before .if1 .left)) (sym (c .before .is-slot-result .ensures) ∙ not-true _ (c .if2 .taken))
+    result-bad (p .args .line .now) (p .args .round) (p .pre .0) (p .pre .2) (capital (codeAt (p .args .line .now) (p .args .round))) refl (sym (c .before .before .before .before .before .is-slot-colour .ensures) ∙ not-false _ (c .before .before .before .before .if1 .left)) (letter-not (codeAt (p .args .line .now) (p .args .round)) (sym (c .before .before .result-of .ensures) ∙ ap letterSays (c .enum-told .given .1)))
 
 shared-slice-read-number-of : tie.Need-shared-slice-read-number-of
 shared-slice-read-number-of c = search needs
@@ -73,15 +79,17 @@ number-of-requires c κs = tt
 enum-known-n : tie.Need-enum-known-n
 enum-known-n c = search needs
 
-enum-told : tie.Need-enum-told
-enum-told c = search needs
+enum-told-2 : tie.Need-enum-told-2
+enum-told-2 c = search needs
 
 returns-3 : tie.Need-returns-3
 returns-3 c =
     let q = c .before .before in
-    let p = q .before .before .before .before .before .before .before .before .before .before .before .before .before in
-    let n-is = is-bad (numberOf (idBytes (p .args .line .now) (p .args .round))) (q .number-of .result) (q .number-of .ensures) (c .before .match .keys2) (c .match2 .keys2) in
-    id-bad (p .args .line .now) (p .args .round) (p .pre .0) (p .pre .2) (q .before .before .before .before .before .before .before .capital .result) (q .before .before .before .before .before .before .before .capital .ensures) (sym (q .before .before .before .before .before .before .before .before .before .before .is-slot-colour .ensures) ∙ not-false _ (q .before .before .before .before .before .before .before .before .before .if1 .left)) (sym (q .before .before .before .before .before .before .is-slot-result .ensures) ∙ not-false _ (q .before .before .before .before .before .if2 .left)) n-is
+    let p = q .before .before .before .before .before .before .before .before .before .before .before .before .before .before in
+    let y = q .before .before .before .before .before .before .result .given .0 .0 in
+    let l = letter-said (codeAt (p .args .line .now) (p .args .round)) y (sym (q .before .before .before .before .before .before .before .before .result-of .ensures) ∙ ap letterSays (q .before .before .before .before .before .before .result .given .1)) in
+    let n-is = is-bad (numberOf (idBytes (p .args .line .now) (p .args .round))) (q .number-of .result) (q .number-of .ensures) (c .before .match2 .keys2) (c .match3 .keys2) in
+    id-bad (p .args .line .now) (p .args .round) (p .pre .0) (p .pre .2) y (l .0) (sym (q .before .before .before .before .before .before .before .before .before .before .before .is-slot-colour .ensures) ∙ not-false _ (q .before .before .before .before .before .before .before .before .before .before .if1 .left)) (l .1) n-is
 
 is-used-requires : tie.Need-is-used-requires
 is-used-requires c κs = tt
@@ -89,9 +97,11 @@ is-used-requires c κs = tt
 returns-4 : tie.Need-returns-4
 returns-4 c =
     let q = c .before .before .before .before .before in
-    let p = q .before .before .before .before .before .before .before .before .before .before .before .before .before in
-    let n-is = is-blank (numberOf (idBytes (p .args .line .now) (p .args .round))) (sym (q .number-of .ensures) ∙ ap numberSays (c .before .before .enum-told .given .1)) in
-    wholly-blank (p .args .line .now) (p .args .round) (p .pre .0) (p .pre .2) (q .before .before .before .before .before .before .before .capital .result) (q .before .before .before .before .before .before .before .capital .ensures) (sym (q .before .before .before .before .before .before .before .before .before .before .is-slot-colour .ensures) ∙ not-false _ (q .before .before .before .before .before .before .before .before .before .if1 .left)) (sym (q .before .before .before .before .before .before .is-slot-result .ensures) ∙ not-false _ (q .before .before .before .before .before .if2 .left)) n-is (c .before .is-used .result) (c .before .is-used .ensures) (not-true _ (c .if3 .taken))
+    let p = q .before .before .before .before .before .before .before .before .before .before .before .before .before .before in
+    let y = q .before .before .before .before .before .before .result .given .0 .0 in
+    let l = letter-said (codeAt (p .args .line .now) (p .args .round)) y (sym (q .before .before .before .before .before .before .before .before .result-of .ensures) ∙ ap letterSays (q .before .before .before .before .before .before .result .given .1)) in
+    let n-is = is-blank (numberOf (idBytes (p .args .line .now) (p .args .round))) (sym (q .number-of .ensures) ∙ ap numberSays (c .before .before .enum-told2 .given .1)) in
+    wholly-blank (p .args .line .now) (p .args .round) (p .pre .0) (p .pre .2) y (l .0) (sym (q .before .before .before .before .before .before .before .before .before .before .before .is-slot-colour .ensures) ∙ not-false _ (q .before .before .before .before .before .before .before .before .before .before .if1 .left)) (l .1) n-is (c .before .is-used .result) (c .before .is-used .ensures) (not-true _ (c .if2 .taken))
 
 bye-of-requires : tie.Need-bye-of-requires
 bye-of-requires c κs = tt
@@ -99,9 +109,11 @@ bye-of-requires c κs = tt
 returns-5 : tie.Need-returns-5
 returns-5 c =
     let q = c .before .before .before .before .before .before in
-    let p = q .before .before .before .before .before .before .before .before .before .before .before .before .before in
-    let n-is = is-blank (numberOf (idBytes (p .args .line .now) (p .args .round))) (sym (q .number-of .ensures) ∙ ap numberSays (c .before .before .before .enum-told .given .1)) in
-    c .bye-of .ensures ∙ id-blank (p .args .line .now) (p .args .round) (p .pre .0) (p .pre .2) (q .before .before .before .before .before .before .before .capital .result) (q .before .before .before .before .before .before .before .capital .ensures) (sym (q .before .before .before .before .before .before .before .before .before .before .is-slot-colour .ensures) ∙ not-false _ (q .before .before .before .before .before .before .before .before .before .if1 .left)) (sym (q .before .before .before .before .before .before .is-slot-result .ensures) ∙ not-false _ (q .before .before .before .before .before .if2 .left)) n-is (c .before .before .is-used .result) (c .before .before .is-used .ensures) (not-false _ (c .before .if3 .left))
+    let p = q .before .before .before .before .before .before .before .before .before .before .before .before .before .before in
+    let y = q .before .before .before .before .before .before .result .given .0 .0 in
+    let l = letter-said (codeAt (p .args .line .now) (p .args .round)) y (sym (q .before .before .before .before .before .before .before .before .result-of .ensures) ∙ ap letterSays (q .before .before .before .before .before .before .result .given .1)) in
+    let n-is = is-blank (numberOf (idBytes (p .args .line .now) (p .args .round))) (sym (q .number-of .ensures) ∙ ap numberSays (c .before .before .before .enum-told2 .given .1)) in
+    c .bye-of .ensures ∙ id-blank (p .args .line .now) (p .args .round) (p .pre .0) (p .pre .2) y (l .0) (sym (q .before .before .before .before .before .before .before .before .before .before .before .is-slot-colour .ensures) ∙ not-false _ (q .before .before .before .before .before .before .before .before .before .before .if1 .left)) (l .1) n-is (c .before .before .is-used .result) (c .before .before .is-used .ensures) (not-false _ (c .before .if2 .left))
 
 bye-of-requires-2 : tie.Need-bye-of-requires-2
 bye-of-requires-2 c κs = tt
@@ -109,16 +121,20 @@ bye-of-requires-2 c κs = tt
 returns-6 : tie.Need-returns-6
 returns-6 c =
     let q = c .before .before .before .before .before in
-    let p = q .before .before .before .before .before .before .before .before .before .before .before .before .before in
+    let p = q .before .before .before .before .before .before .before .before .before .before .before .before .before .before in
+    let y = q .before .before .before .before .before .before .result .given .0 .0 in
+    let l = letter-said (codeAt (p .args .line .now) (p .args .round)) y (sym (q .before .before .before .before .before .before .before .before .result-of .ensures) ∙ ap letterSays (q .before .before .before .before .before .before .result .given .1)) in
     let n-is = is-value (numberOf (idBytes (p .args .line .now) (p .args .round))) (c .before .before .before .n .given .0 .0) (sym (q .number-of .ensures) ∙ ap numberSays (c .before .before .before .n .given .1)) in
-    c .bye-of2 .ensures ∙ id-zero (p .args .line .now) (p .args .round) (p .pre .0) (p .pre .2) (q .before .before .before .before .before .before .before .capital .result) (q .before .before .before .before .before .before .before .capital .ensures) (sym (q .before .before .before .before .before .before .before .before .before .before .is-slot-colour .ensures) ∙ not-false _ (q .before .before .before .before .before .before .before .before .before .if1 .left)) (sym (q .before .before .before .before .before .before .is-slot-result .ensures) ∙ not-false _ (q .before .before .before .before .before .if2 .left)) (c .before .before .before .n .given .0 .0) n-is (c .before .if4 .taken)
+    c .bye-of2 .ensures ∙ id-zero (p .args .line .now) (p .args .round) (p .pre .0) (p .pre .2) y (l .0) (sym (q .before .before .before .before .before .before .before .before .before .before .before .is-slot-colour .ensures) ∙ not-false _ (q .before .before .before .before .before .before .before .before .before .before .if1 .left)) (l .1) (c .before .before .before .n .given .0 .0) n-is (c .before .if3 .taken)
 
 returns-7 : tie.Need-returns-7
 returns-7 c =
     let q = c .before .before .before .before in
-    let p = q .before .before .before .before .before .before .before .before .before .before .before .before .before in
+    let p = q .before .before .before .before .before .before .before .before .before .before .before .before .before .before in
+    let y = q .before .before .before .before .before .before .result .given .0 .0 in
+    let l = letter-said (codeAt (p .args .line .now) (p .args .round)) y (sym (q .before .before .before .before .before .before .before .before .result-of .ensures) ∙ ap letterSays (q .before .before .before .before .before .before .result .given .1)) in
     let n-is = is-value (numberOf (idBytes (p .args .line .now) (p .args .round))) (c .before .before .n .given .0 .0) (sym (q .number-of .ensures) ∙ ap numberSays (c .before .before .n .given .1)) in
-    id-other (p .args .line .now) (p .args .round) (p .pre .0) (p .pre .2) (q .before .before .before .before .before .before .before .capital .result) (q .before .before .before .before .before .before .before .capital .ensures) (sym (q .before .before .before .before .before .before .before .before .before .before .is-slot-colour .ensures) ∙ not-false _ (q .before .before .before .before .before .before .before .before .before .if1 .left)) (sym (q .before .before .before .before .before .before .is-slot-result .ensures) ∙ not-false _ (q .before .before .before .before .before .if2 .left)) (c .before .before .n .given .0 .0) n-is (c .if4 .left)
+    id-other (p .args .line .now) (p .args .round) (p .pre .0) (p .pre .2) y (l .0) (sym (q .before .before .before .before .before .before .before .before .before .before .before .is-slot-colour .ensures) ∙ not-false _ (q .before .before .before .before .before .before .before .before .before .before .if1 .left)) (l .1) (c .before .before .n .given .0 .0) n-is (c .if3 .left)
 
 pub slot-of-spec : {M : Type 1} → statement M
 slot-of-spec =
@@ -132,8 +148,9 @@ slot-of-spec =
     returns
     add-code
     shared-slice-read-code
-    capital-requires
-    is-slot-result-requires
+    result-of-requires
+    enum-known-result
+    enum-told
     returns-2
     shared-slice-read-number-of
     add-number-of
@@ -144,7 +161,7 @@ slot-of-spec =
     shared-slice-read-number-of-4
     number-of-requires
     enum-known-n
-    enum-told
+    enum-told-2
     returns-3
     is-used-requires
     returns-4
