@@ -18,7 +18,7 @@ use Rattle.law.specs.Players.{Slot, idField, entryColourColumn, resultColumn, r
 use Rattle.law.specs.Tournament.{Entry, blankAs, normal}
 use Rattle.law.specs.Entries.{noEntry}
 use Rattle.law.proofs.FieldsRead as law
-use Rattle.law.proofs.RecordsRead.{isUsed, slotOf, slotsOf}
+use Rattle.law.proofs.RecordsRead.{isUsed, slotOf}
 use Rattle.join.specs.Store.{rawCell}
 use Rattle.fields.specs.Said.{Said, says, refuses, orBadField}
 use Rattle.fields.proofs.Columns.{getD-any, cells-cons, cells-one, cells-four}
@@ -27,7 +27,7 @@ use Rattle.fields.proofs.Fours.{number-not-blank}
 use Rattle.fields.proofs.Cases.{standing, is-standing}
 use Rattle.kept_columns.proofs.KeptColumns.{gap}
 use Rattle.rows.specs.declared.Slots.{Slots}
-use Rattle.rows.specs.Rows.{bye, noSlots, theSlots, SlotsSay, idsOf, coloursOf, resultsOf}
+use Rattle.rows.specs.Rows.{roundsIn, bye, noSlots, theSlots, SlotsSay, idsOf, coloursOf, resultsOf}
 
 abbrev pub slotFrom : ℕ → ℕ → ℕ → Bool → Slot
 slotFrom i c r u = record { id = i; colour = c; result = r; used = u }
@@ -137,6 +137,37 @@ module _ (row : List ℕ) (r : ℕ) (h : 1 ≤ r) (long : 89 + 10 * r ≤ length
         pub id-other : (id ≡ 0 → ⊥) → says (record { id = id; colour = getD row (81 + 10 * r + 5) 0; result = y }) ≡ stored (slotOf row r)
         id-other h = ap says (raw-game id (getD row (81 + 10 * r + 5) 0) y (isUsed row r) h (used-id id e)) ∙ sym (by-id (law.value id) e)
 
+-- ---- the columns between the rounds' fields
+pub two-columns : (row : List ℕ) (i : ℕ) → all isBlank (cells row i 2) ≡ all isBlank (cells row i 1) && all isBlank (cells row (i + 1) 1)
+two-columns row i =
+    ap (all isBlank) (cells-cons row i 1) ∙ ap₂ (λ (x y : Bool). x && y) (sym (ap (all isBlank) (cells-one row i) ∙ and-true (isBlank (getD row i blank)))) (ap (λ (j : ℕ). all isBlank (cells row j 1)) (sym (add-one i)))
+
+abbrev pub gapsBlank : List ℕ → ℕ → Bool
+gapsBlank row i = conj (all isBlank (cells row (89 + 10 * i) 2) ∷ all isBlank (cells row (89 + 10 * i + 6) 1) ∷ all isBlank (cells row (89 + 10 * i + 8) 1) ∷ [])
+
+pub between-turn : (row : List ℕ) (i : ℕ) → i < 20 → (v : Bool) → gapsBlank row i ≡ v
+    → elseBlank (90 + 10 * i) (flat roundFields (from (i + 1) (20 - i))) row ≡ v && elseBlank (90 + 10 * (i + 1)) (flat roundFields (from (i + 1 + 1) (20 - (i + 1)))) row
+unfolding flat
+between-turn row i h v e =
+    let n : 20 - i ≡ suc (20 - (i + 1)) = omega arith in
+    ap (λ (k : ℕ). elseBlank (90 + 10 * i) (flat roundFields (from (i + 1) k)) row) n
+    ∙ ap₂ (λ (x y : Bool). x && y) (ap (all isBlank) (ap₂ (cells row) (omega arith) (omega arith)))
+    (ap₂ (λ (x y : Bool). x && y) (ap (all isBlank) (ap₂ (cells row) (omega arith) (omega arith)))
+    (ap₂ (λ (x y : Bool). x && y) (ap (all isBlank) (ap₂ (cells row) (omega arith) (omega arith)))
+    (ap (λ (c : ℕ). elseBlank c (flat roundFields (from (i + 1 + 1) (20 - (i + 1)))) row) (omega arith))))
+    ∙ regroup (all isBlank (cells row (89 + 10 * i) 2)) (all isBlank (cells row (89 + 10 * i + 6) 1)) (all isBlank (cells row (89 + 10 * i + 8) 1)) (elseBlank (90 + 10 * (i + 1)) (flat roundFields (from (i + 1 + 1) (20 - (i + 1)))) row)
+    ∙ ap (λ (b : Bool). b && elseBlank (90 + 10 * (i + 1)) (flat roundFields (from (i + 1 + 1) (20 - (i + 1)))) row) e
+  where
+    regroup : (a b c r : Bool) → a && (b && (c && r)) ≡ (a && (b && (c && true))) && r
+    regroup true true true r = refl
+    regroup true true false r = refl
+    regroup true false c r = refl
+    regroup false b c r = refl
+
+pub between-end : (row : List ℕ) (i : ℕ) → i ≡ 20 → elseBlank (90 + 10 * i) (flat roundFields (from (i + 1) (20 - i))) row ≡ elseBlank 290 [] row
+unfolding flat
+between-end row i e = ap (λ (k : ℕ). elseBlank (90 + 10 * k) (flat roundFields (from (k + 1) (20 - k))) row) e
+
 -- ---- the rounds, of which the first i are read
 to-some : {A B : Type 0} (g : A → B) (o : Option A) (b : B) → to g o ≡ some b → (a : A) × ((o ≡ some a) × (g a ≡ b))
 to-some g (some a) b e = let u : g a ≡ b = cc in (a, (refl, u))
@@ -166,16 +197,20 @@ slots-are : (o : Option (List Slot)) (r : Slots) → r ≡ asSlots o → SlotsSa
 unfolding noSlots theSlots
 slots-are o r e = is-standing (λ (x : Slots). x .good) noSlots theSlots refl (λ _. refl) o r e
 
+-- those that are left, where what stands between them is blank
+abbrev pub left : List ℕ → ℕ → Bool
+left row i = elseBlank (90 + 10 * i) (flat roundFields (from (i + 1) (20 - i))) row
+
 pub record Read (row : List ℕ) (i : ℕ) (ids colours results : List ℕ) : Type 0 where
   pub slots : List Slot
   pub long : length slots ≡ i
-  pub rest : slotsOf row ≡ to (λ (l : List Slot). slots ++ l) (each (slotOf row) (from (i + 1) (20 - i)))
+  pub rest : roundsIn row ≡ to (λ (l : List Slot). slots ++ l) (when (left row i) (each (slotOf row) (from (i + 1) (20 - i))))
   pub ids-are : ids ≡ map (λ (s : Slot). rawCell s .id) slots ++ replicate (20 - i) 0
   pub colours-are : colours ≡ map (λ (s : Slot). rawCell s .colour) slots ++ replicate (20 - i) 0
   pub results-are : results ≡ map (λ (s : Slot). rawCell s .result) slots ++ replicate (20 - i) 0
 
 pub none-read : (row : List ℕ) → Read row 0 (replicate 20 0) (replicate 20 0) (replicate 20 0)
-none-read row = record { slots = []; long = refl; rest = go (slotsOf row); ids-are = refl; colours-are = refl; results-are = refl }
+none-read row = record { slots = []; long = refl; rest = go (roundsIn row); ids-are = refl; colours-are = refl; results-are = refl }
   where
     go : (o : Option (List Slot)) → o ≡ to (λ (l : List Slot). l) o
     go none = refl
@@ -186,32 +221,45 @@ module _ (row : List ℕ) (i : ℕ) (ids colours results : List ℕ) (f : Read r
     next : each (slotOf row) (from (i + 1) (20 - i)) ≡ cons (slotOf row (i + 1)) (each (slotOf row) (from (i + 1 + 1) (20 - (i + 1))))
     next = let e : 20 - i ≡ suc (20 - (i + 1)) = omega arith in ap (λ (k : ℕ). each (slotOf row) (from (i + 1) k)) e
 
-    pub round-bad : to rawCell (slotOf row (i + 1)) ≡ none → {r : Slots} → r ≡ noSlots → SlotsSay (slotsOf row) r
-    round-bad b {r} n =
-        let e : slotOf row (i + 1) ≡ none = to-none rawCell (slotOf row (i + 1)) b in
-        slots-are (slotsOf row) r
-        (n ∙ ap asSlots (sym (f .rest ∙ ap (to (λ (l : List Slot). f .slots ++ l)) (next ∙ ap (λ (o : Option Slot). cons o (each (slotOf row) (from (i + 1 + 1) (20 - (i + 1))))) e))))
+    turn : (v : Bool) → gapsBlank row i ≡ v
+        → roundsIn row ≡ to (λ (l : List Slot). f .slots ++ l) (when (v && left row (i + 1)) (cons (slotOf row (i + 1)) (each (slotOf row) (from (i + 1 + 1) (20 - (i + 1))))))
+    turn v e = f .rest ∙ ap₂ (λ (b : Bool) (o : Option (List Slot)). to (λ (l : List Slot). f .slots ++ l) (when b o)) (between-turn row i h v e) next
 
-    read-more : (s : Slot) → slotOf row (i + 1) ≡ some s → Read row (i + 1) (set ids i (rawCell s .id)) (set colours i (rawCell s .colour)) (set results i (rawCell s .result))
-    read-more s e =
-        record {
-          slots = f .slots ++ (s ∷ []);
-          long = length-append (f .slots) (s ∷ []) ∙ ap (λ (k : ℕ). k + 1) (f .long);
-          rest = f .rest ∙ ap (to (λ (l : List Slot). f .slots ++ l)) (next ∙ ap (λ (o : Option Slot). cons o (each (slotOf row) (from (i + 1 + 1) (20 - (i + 1))))) e)
-              ∙ go (each (slotOf row) (from (i + 1 + 1) (20 - (i + 1))));
-          ids-are = ap (λ (l : List ℕ). set l i (rawCell s .id)) (f .ids-are) ∙ set-next (λ (s : Slot). rawCell s .id) 0 (f .slots) s i 20 (f .long) h;
-          colours-are = ap (λ (l : List ℕ). set l i (rawCell s .colour)) (f .colours-are) ∙ set-next (λ (s : Slot). rawCell s .colour) 0 (f .slots) s i 20 (f .long) h;
-          results-are = ap (λ (l : List ℕ). set l i (rawCell s .result)) (f .results-are) ∙ set-next (λ (s : Slot). rawCell s .result) 0 (f .slots) s i 20 (f .long) h;
-        }
-      where
-        go : (o : Option (List Slot)) → to (λ (l : List Slot). f .slots ++ l) (cons (some s) o) ≡ to (λ (l : List Slot). (f .slots ++ (s ∷ [])) ++ l) o
-        go none = refl
-        go (some l) = ap some (sym (append-snoc (f .slots) s l))
+    pub gaps-bad : gapsBlank row i ≡ false → {r : Slots} → r ≡ noSlots → SlotsSay (roundsIn row) r
+    gaps-bad e {r} n = slots-are (roundsIn row) r (n ∙ ap asSlots (sym (turn false e)))
 
-    pub round-more : (c : Entry) → to rawCell (slotOf row (i + 1)) ≡ some c → Read row (i + 1) (set ids i (c .id)) (set colours i (c .colour)) (set results i (c .result))
-    round-more c e =
-        let s = to-some rawCell (slotOf row (i + 1)) c e in
-        subst (λ (x : Entry). Read row (i + 1) (set ids i (x .id)) (set colours i (x .colour)) (set results i (x .result))) (s .1 .1) (read-more (s .0) (s .1 .0))
+    module _ (g : gapsBlank row i ≡ true) where
+      with-slot : (o : Option Slot) → slotOf row (i + 1) ≡ o
+          → roundsIn row ≡ to (λ (l : List Slot). f .slots ++ l) (when (left row (i + 1)) (cons o (each (slotOf row) (from (i + 1 + 1) (20 - (i + 1))))))
+      with-slot o e = turn true g ∙ ap (λ (x : Option Slot). to (λ (l : List Slot). f .slots ++ l) (when (left row (i + 1)) (cons x (each (slotOf row) (from (i + 1 + 1) (20 - (i + 1))))))) e
+
+      pub round-bad : to rawCell (slotOf row (i + 1)) ≡ none → {r : Slots} → r ≡ noSlots → SlotsSay (roundsIn row) r
+      round-bad e {r} n = slots-are (roundsIn row) r (n ∙ ap asSlots (sym (with-slot none (to-none rawCell (slotOf row (i + 1)) e) ∙ go (left row (i + 1)))))
+        where
+          go : (b : Bool) → to (λ (l : List Slot). f .slots ++ l) (when b none) ≡ none
+          go true = refl
+          go false = refl
+
+      read-more : (s : Slot) → slotOf row (i + 1) ≡ some s → Read row (i + 1) (set ids i (rawCell s .id)) (set colours i (rawCell s .colour)) (set results i (rawCell s .result))
+      read-more s e =
+          record {
+            slots = f .slots ++ (s ∷ []);
+            long = length-append (f .slots) (s ∷ []) ∙ ap (λ (k : ℕ). k + 1) (f .long);
+            rest = with-slot (some s) e ∙ go (left row (i + 1)) (each (slotOf row) (from (i + 1 + 1) (20 - (i + 1))));
+            ids-are = ap (λ (l : List ℕ). set l i (rawCell s .id)) (f .ids-are) ∙ set-next (λ (s : Slot). rawCell s .id) 0 (f .slots) s i 20 (f .long) h;
+            colours-are = ap (λ (l : List ℕ). set l i (rawCell s .colour)) (f .colours-are) ∙ set-next (λ (s : Slot). rawCell s .colour) 0 (f .slots) s i 20 (f .long) h;
+            results-are = ap (λ (l : List ℕ). set l i (rawCell s .result)) (f .results-are) ∙ set-next (λ (s : Slot). rawCell s .result) 0 (f .slots) s i 20 (f .long) h;
+          }
+        where
+          go : (b : Bool) (o : Option (List Slot)) → to (λ (l : List Slot). f .slots ++ l) (when b (cons (some s) o)) ≡ to (λ (l : List Slot). (f .slots ++ (s ∷ [])) ++ l) (when b o)
+          go false o = refl
+          go true none = refl
+          go true (some l) = ap some (sym (append-snoc (f .slots) s l))
+
+      pub round-more : (c : Entry) → to rawCell (slotOf row (i + 1)) ≡ some c → Read row (i + 1) (set ids i (c .id)) (set colours i (c .colour)) (set results i (c .result))
+      round-more c e =
+          let s = to-some rawCell (slotOf row (i + 1)) c e in
+          subst (λ (x : Entry). Read row (i + 1) (set ids i (x .id)) (set colours i (x .colour)) (set results i (x .result))) (s .1 .1) (read-more (s .0) (s .1 .0))
 
   column-read : (g : Entry → ℕ) → g noEntry ≡ 0 → (l : List ℕ) → l ≡ map (λ (s : Slot). g (rawCell s)) (f .slots) ++ replicate (20 - i) 0
       → l ≡ map g (map rawCell (f .slots ++ replicate (20 - i) noSlot))
@@ -222,40 +270,17 @@ module _ (row : List ℕ) (i : ℕ) (ids colours results : List ℕ) (f : Read r
       ∙ sym (map-map g rawCell (f .slots ++ replicate (20 - i) noSlot))
 
   -- the others are wholly blank
-  pub all-read : each (slotOf row) (from (i + 1) (20 - i)) ≡ some (replicate (20 - i) noSlot) → SlotsSay (slotsOf row) (record { good = true; ids = ids; colours = colours; results = results })
+  pub end-bad : left row i ≡ false → {r : Slots} → r ≡ noSlots → SlotsSay (roundsIn row) r
+  end-bad e {r} n =
+      slots-are (roundsIn row) r
+      (n ∙ ap asSlots (sym (f .rest ∙ ap (λ (b : Bool). to (λ (l : List Slot). f .slots ++ l) (when b (each (slotOf row) (from (i + 1) (20 - i))))) e)))
+
+  pub all-read : left row i ≡ true → each (slotOf row) (from (i + 1) (20 - i)) ≡ some (replicate (20 - i) noSlot)
+      → SlotsSay (roundsIn row) (record { good = true; ids = ids; colours = colours; results = results })
   unfolding theSlots idsOf coloursOf resultsOf
-  all-read others =
-      let whole : slotsOf row ≡ some (f .slots ++ replicate (20 - i) noSlot) = f .rest ∙ ap (to (λ (l : List Slot). f .slots ++ l)) others in
+  all-read e others =
+      let whole : roundsIn row ≡ some (f .slots ++ replicate (20 - i) noSlot) = f .rest ∙ ap₂ (λ (b : Bool) (o : Option (List Slot)). to (λ (l : List Slot). f .slots ++ l) (when b o)) e others in
       let a = column-read (λ (c : Entry). c .id) refl ids (f .ids-are) in
       let b = column-read (λ (c : Entry). c .colour) refl colours (f .colours-are) in
       let d = column-read (λ (c : Entry). c .result) refl results (f .results-are) in
-      slots-are (slotsOf row) (record { good = true; ids = ids; colours = colours; results = results }) ((λ k. record { good = true; ids = a k; colours = b k; results = d k }) ∙ ap asSlots (sym whole))
-
--- ---- the columns between the rounds' fields
-pub two-columns : (row : List ℕ) (i : ℕ) → all isBlank (cells row i 2) ≡ all isBlank (cells row i 1) && all isBlank (cells row (i + 1) 1)
-two-columns row i =
-    ap (all isBlank) (cells-cons row i 1) ∙ ap₂ (λ (x y : Bool). x && y) (sym (ap (all isBlank) (cells-one row i) ∙ and-true (isBlank (getD row i blank)))) (ap (λ (j : ℕ). all isBlank (cells row j 1)) (sym (add-one i)))
-
-pub between-turn : (row : List ℕ) (i : ℕ) → i < 20 → (v : Bool)
-    → conj (all isBlank (cells row (89 + 10 * i) 2) ∷ all isBlank (cells row (89 + 10 * i + 6) 1) ∷ all isBlank (cells row (89 + 10 * i + 8) 1) ∷ []) ≡ v
-    → elseBlank (90 + 10 * i) (flat roundFields (from (i + 1) (20 - i))) row ≡ v && elseBlank (90 + 10 * (i + 1)) (flat roundFields (from (i + 1 + 1) (20 - (i + 1)))) row
-unfolding flat
-between-turn row i h v e =
-    let n : 20 - i ≡ suc (20 - (i + 1)) = omega arith in
-    ap (λ (k : ℕ). elseBlank (90 + 10 * i) (flat roundFields (from (i + 1) k)) row) n
-    ∙ ap₂ (λ (x y : Bool). x && y) (ap (all isBlank) (ap₂ (cells row) (omega arith) (omega arith)))
-    (ap₂ (λ (x y : Bool). x && y) (ap (all isBlank) (ap₂ (cells row) (omega arith) (omega arith)))
-    (ap₂ (λ (x y : Bool). x && y) (ap (all isBlank) (ap₂ (cells row) (omega arith) (omega arith)))
-    (ap (λ (c : ℕ). elseBlank c (flat roundFields (from (i + 1 + 1) (20 - (i + 1)))) row) (omega arith))))
-    ∙ regroup (all isBlank (cells row (89 + 10 * i) 2)) (all isBlank (cells row (89 + 10 * i + 6) 1)) (all isBlank (cells row (89 + 10 * i + 8) 1)) (elseBlank (90 + 10 * (i + 1)) (flat roundFields (from (i + 1 + 1) (20 - (i + 1)))) row)
-    ∙ ap (λ (b : Bool). b && elseBlank (90 + 10 * (i + 1)) (flat roundFields (from (i + 1 + 1) (20 - (i + 1)))) row) e
-  where
-    regroup : (a b c r : Bool) → a && (b && (c && r)) ≡ (a && (b && (c && true))) && r
-    regroup true true true r = refl
-    regroup true true false r = refl
-    regroup true false c r = refl
-    regroup false b c r = refl
-
-pub between-end : (row : List ℕ) (i : ℕ) → i ≡ 20 → elseBlank (90 + 10 * i) (flat roundFields (from (i + 1) (20 - i))) row ≡ elseBlank 290 [] row
-unfolding flat
-between-end row i e = ap (λ (k : ℕ). elseBlank (90 + 10 * k) (flat roundFields (from (k + 1) (20 - k))) row) e
+      slots-are (roundsIn row) (record { good = true; ids = ids; colours = colours; results = results }) ((λ k. record { good = true; ids = a k; colours = b k; results = d k }) ∙ ap asSlots (sym whole))

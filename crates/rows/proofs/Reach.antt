@@ -6,17 +6,17 @@ use mathlib.Core.List.{List, [], _∷_, _++_}
 use Prim.Native.Nat.{ℕ, zero, suc, _+_, _*_, _-_, _≤_, _<_}
 use native.Mathlib.Omega.{arith}
 use lib.ListN.{length, getD, replicate, List·getD-eq-default}
-use Rattle.kit.specs.Lists.{all, from, flat}
+use Rattle.kit.specs.Lists.{all, from}
 use Rattle.kit.specs.Decides.{cons, each}
 use Rattle.kit.proofs.Bools.{both}
 use Rattle.law.specs.Columns.{blank, isBlank, cells, elseBlank}
-use Rattle.law.specs.Players.{roundFields, capital}
+use Rattle.law.specs.Players.{capital}
 use Rattle.law.proofs.ColumnLaws.{getD-blanks}
 use Rattle.law.proofs.FieldsRead.{numberOf, numberOr0}
 use Rattle.law.proofs.RecordsRead.{slotOf}
 use Rattle.fields.proofs.Columns.{cells-nil, cells-cons, cells-four}
 use Rattle.rows.specs.Rows.{Reaches}
-use Rattle.rows.proofs.PlayerRounds.{slotFrom, noSlot, used-by, slot-by, between-turn, between-end}
+use Rattle.rows.proofs.PlayerRounds.{slotFrom, noSlot, used-by, slot-by, between-turn, between-end, left}
 
 module _ (row : List ℕ) (reach : ℕ) (f : Reaches row reach) where
   blank-cells : (w at : ℕ) → 89 + 10 * reach ≤ at → at + w ≤ 289 → all isBlank (cells row at w) ≡ true
@@ -43,14 +43,14 @@ module _ (row : List ℕ) (reach : ℕ) (f : Reaches row reach) where
   others-blank i h g = blank-slots (20 - i) (i + 1) (omega arith) (let m = f .most in omega arith)
 
   -- ---- the columns between their fields
-  blank-between : (n i : ℕ) → reach ≤ i → i + n ≡ 20 → elseBlank (90 + 10 * i) (flat roundFields (from (i + 1) (20 - i))) row ≡ elseBlank 290 [] row
+  blank-between : (n i : ℕ) → reach ≤ i → i + n ≡ 20 → left row i ≡ elseBlank 290 [] row
   blank-between zero i h g = between-end row i (omega arith)
   blank-between (suc n) i h g =
       between-turn row i (omega arith) true
       (both (blank-cells 2 (89 + 10 * i) (omega arith) (omega arith)) (both (blank-cells 1 (89 + 10 * i + 6) (omega arith) (omega arith)) (both (blank-cells 1 (89 + 10 * i + 8) (omega arith) (omega arith)) refl)))
       ∙ blank-between n (i + 1) (omega arith) (omega arith)
 
-  pub others-between : (i : ℕ) → reach ≤ i → i ≤ reach → elseBlank (90 + 10 * i) (flat roundFields (from (i + 1) (20 - i))) row ≡ elseBlank 290 [] row
+  pub others-between : (i : ℕ) → reach ≤ i → i ≤ reach → left row i ≡ elseBlank 290 [] row
   others-between i h g = blank-between (20 - i) i h (let m = f .most in omega arith)
 
 -- ---- how far a line reaches: as it is, or with blanks after it

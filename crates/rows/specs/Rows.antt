@@ -5,12 +5,13 @@ use mathlib.Core.Option.{Option, some}
 use mathlib.Core.List.{List, map}
 use Prim.Native.Nat.{ℕ, _+_, _*_, _≤_, _<_}
 use lib.ListN.{length, getD, replicate}
-use Rattle.kit.specs.Lists.{among}
-use Rattle.kit.specs.Decides.{keep}
+use Rattle.kit.specs.Lists.{among, flat}
+use Rattle.kit.specs.Decides.{when, keep}
 use Rattle.law.specs.Sizes.{mostRounds}
-use Rattle.law.specs.Columns.{blank}
+use Rattle.law.specs.Columns.{blank, elseBlank}
 use Rattle.law.specs.Players as law
 use Rattle.law.specs.Tournament.{Entry}
+use Rattle.law.proofs.RecordsRead.{slotsOf}
 use Rattle.join.specs.Store.{rawCell, rawCells}
 use Rattle.fields.specs.Said.{Said, says, refuses, Stands}
 use Rattle.rows.specs.declared.Letter.{Letter}
@@ -40,6 +41,10 @@ letterSays letter.Bad = refuses 7
 
 abbrev pub resultIn : ℕ → Option ℕ
 resultIn code = keep (λ c. among c law.slotResults) (some (law.capital code))
+
+-- the rounds' columns: all rounds, where the columns between them and after the last are blank
+abbrev pub roundsIn : List ℕ → Option (List law.Slot)
+roundsIn line = when (elseBlank (roundsEnd 0 + 1) (flat law.roundFields law.everyRound) line) (slotsOf line)
 
 -- a round as it is stored
 abbrev pub slotSays : Slot → Said Entry

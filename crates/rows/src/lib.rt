@@ -13,16 +13,16 @@ ghost use mathlib.Core.Bool.{not, _&&_};
 ghost use mathlib.Core.List.{[], _∷_, _++_};
 ghost use Prim.Native.Nat.{_+_, _-_, _≤_, _<_};
 ghost use lib.ListN.{length, replicate};
-ghost use Rattle.kit.specs.Lists.{all, among, conj, flat};
+ghost use Rattle.kit.specs.Lists.{all, among, conj};
 ghost use Rattle.kit.specs.Decides.{to};
 ghost use Rattle.law.specs.Sizes.{mostRounds};
-ghost use Rattle.law.specs.Columns.{blank, isBlank, cells, elseBlank, afterCode};
-ghost use Rattle.law.specs.Players.{slotColours, slotResults, roundFields, everyRound, playerFields, capital as capitalOf};
+ghost use Rattle.law.specs.Columns.{blank, isBlank, cells};
+ghost use Rattle.law.specs.Players.{slotColours, slotResults, capital as capitalOf};
 ghost use Rattle.law.specs.Tournament.{blankAs, normal};
-ghost use Rattle.law.proofs.RecordsRead.{slotOf, slotsOf, playerOf};
+ghost use Rattle.law.proofs.RecordsRead.{slotOf, playerOf};
 ghost use Rattle.join.specs.Store.{rawCell};
 ghost use Rattle.fields.specs.Said.{says, orBadField};
-ghost use Rattle.rows.specs.Rows.{roundsEnd, playerColumns, Reaches, letterSays, resultIn, slotSays, bye, noSlots, SlotsSay, noRow, RowSays};
+ghost use Rattle.rows.specs.Rows.{roundsEnd, playerColumns, Reaches, roundsIn, letterSays, resultIn, slotSays, bye, noSlots, SlotsSay, noRow, RowSays};
 
 // The columns up to the last round's result.
 const COLUMNS: usize = 89 + 10 * MOST_ROUNDS;
@@ -158,42 +158,6 @@ fn slot_of(line: &[u8], round: usize) -> Slot
     Slot::Read(opponent, colour, result)
 }
 
-fn no_slots() -> Slots
-    ensures { λ r. ⌜ r ≡ noSlots ⌝ }
-{
-    Slots {
-        good: false,
-        ids: [0; MOST_ROUNDS],
-        colours: [0; MOST_ROUNDS],
-        results: [0; MOST_ROUNDS],
-    }
-}
-
-fn slots_of(line: &[u8], reach: usize) -> Slots
-    requires { ⌜ Reaches (now line) reach ⌝ }
-    ensures { λ r. ⌜ SlotsSay (slotsOf (now (line .entry))) r ⌝ }
-{
-    let mut ids = [0u32; MOST_ROUNDS];
-    let mut colours = [0u8; MOST_ROUNDS];
-    let mut results = [0u8; MOST_ROUNDS];
-    let mut i = 0;
-    while i < reach {
-        let Slot::Read(id, colour, result) = slot_of(line, i + 1) else {
-            return no_slots();
-        };
-        ids[i] = id;
-        colours[i] = colour;
-        results[i] = result;
-        i += 1;
-    }
-    Slots {
-        good: true,
-        ids,
-        colours,
-        results,
-    }
-}
-
 fn blank_column(line: &[u8], i: usize) -> bool
     requires { ⌜ i < length (now line) ⌝ }
     ensures { λ r. ⌜ r ≡ all isBlank (cells (now (line .entry)) i 1) ⌝ }
@@ -232,23 +196,53 @@ fn round_else_blank(line: &[u8], at: usize) -> bool
     blank_column(line, at + 8)
 }
 
-fn rounds_else_blank(line: &[u8], reach: usize) -> bool
-    requires { ⌜ Reaches (now line) reach ⌝ }
-    ensures { λ r. ⌜ r ≡ elseBlank 90 (flat roundFields everyRound) (now (line .entry)) ⌝ }
+fn no_slots() -> Slots
+    ensures { λ r. ⌜ r ≡ noSlots ⌝ }
 {
+    Slots {
+        good: false,
+        ids: [0; MOST_ROUNDS],
+        colours: [0; MOST_ROUNDS],
+        results: [0; MOST_ROUNDS],
+    }
+}
+
+// The rounds, and the columns between them and after the last.
+fn slots_of(line: &[u8], reach: usize) -> Slots
+    requires { ⌜ Reaches (now line) reach ⌝ }
+    ensures { λ r. ⌜ SlotsSay (roundsIn (now (line .entry))) r ⌝ }
+{
+    let mut ids = [0u32; MOST_ROUNDS];
+    let mut colours = [0u8; MOST_ROUNDS];
+    let mut results = [0u8; MOST_ROUNDS];
     let mut i = 0;
     while i < reach {
         if !round_else_blank(line, 89 + 10 * i) {
-            return false;
+            return no_slots();
         }
+        let Slot::Read(id, colour, result) = slot_of(line, i + 1) else {
+            return no_slots();
+        };
+        ids[i] = id;
+        colours[i] = colour;
+        results[i] = result;
         i += 1;
     }
-    fields::blank_from(line, COLUMNS)
+    if !fields::blank_from(line, COLUMNS) {
+        return no_slots();
+    }
+    Slots {
+        good: true,
+        ids,
+        colours,
+        results,
+    }
 }
 
-fn player_else_blank(line: &[u8], reach: usize) -> bool
-    requires { ⌜ Reaches (now line) reach ⌝ }
-    ensures { λ r. ⌜ r ≡ elseBlank afterCode playerFields (now (line .entry)) ⌝ }
+// Whether the columns between the fields before the rounds are blank.
+fn player_else_blank(line: &[u8]) -> bool
+    requires { ⌜ roundsEnd 0 ≤ length (now line) ⌝ }
+    ensures { λ r. ⌜ r ≡ conj (all isBlank (cells (now (line .entry)) 3 1) ∷ all isBlank (cells (now (line .entry)) 8 1) ∷ all isBlank (cells (now (line .entry)) 79 1) ∷ all isBlank (cells (now (line .entry)) 84 1) ∷ []) ⌝ }
 {
     if !blank_column(line, 3) {
         return false;
@@ -259,10 +253,7 @@ fn player_else_blank(line: &[u8], reach: usize) -> bool
     if !blank_column(line, 79) {
         return false;
     }
-    if !blank_column(line, 84) {
-        return false;
-    }
-    rounds_else_blank(line, reach)
+    blank_column(line, 84)
 }
 
 fn no_row() -> Row
@@ -285,7 +276,7 @@ fn wide_player(line: &[u8], reach: usize) -> Row
     requires { ⌜ Reaches (now line) reach ⌝ }
     ensures { λ r. ⌜ RowSays (playerOf (now (line .entry))) r ⌝ }
 {
-    if !player_else_blank(line, reach) {
+    if !player_else_blank(line) {
         return no_row();
     }
     let kept = kept_columns::kept_of(line);

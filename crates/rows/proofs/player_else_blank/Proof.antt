@@ -1,6 +1,7 @@
 -- `rows::player_else_blank` meets its contract: the columns between the fields, one gap after the other. Assumes nothing.
 use mathlib.Core.Path.{refl, sym, _∙_}
 use borrow.Author.Tests.{not-true, not-false}
+use Rattle.fields.proofs.Turns.{and-true}
 use borrow.Author.Needs.{needs}
 use Rattle.rows.proofs.player_else_blank.Statement.{statement}
 use Rattle.rows.proofs.player_else_blank.Tie as tie
@@ -27,13 +28,7 @@ blank-column-requires-4 : tie.Need-blank-column-requires-4
 blank-column-requires-4 c κs = search needs
 
 returns-4 : tie.Need-returns-4
-returns-4 c = rw (sym (c .before .before .before .before .before .before .before .blank-column .ensures) ∙ not-false _ (c .before .before .before .before .before .before .if1 .left), sym (c .before .before .before .before .before .blank-column2 .ensures) ∙ not-false _ (c .before .before .before .before .if2 .left), sym (c .before .before .before .blank-column3 .ensures) ∙ not-false _ (c .before .before .if3 .left), sym (c .before .blank-column4 .ensures) ∙ not-true _ (c .if4 .taken)) refl
-
-rounds-else-blank-requires : tie.Need-rounds-else-blank-requires
-rounds-else-blank-requires c κs = search needs
-
-returns-5 : tie.Need-returns-5
-returns-5 c = rw (sym (c .before .before .before .before .before .before .before .before .blank-column .ensures) ∙ not-false _ (c .before .before .before .before .before .before .before .if1 .left), sym (c .before .before .before .before .before .before .blank-column2 .ensures) ∙ not-false _ (c .before .before .before .before .before .if2 .left), sym (c .before .before .before .before .blank-column3 .ensures) ∙ not-false _ (c .before .before .before .if3 .left), sym (c .before .before .blank-column4 .ensures) ∙ not-false _ (c .before .if4 .left)) (c .rounds-else-blank .ensures)
+returns-4 c = rw (sym (c .before .before .before .before .before .before .blank-column .ensures) ∙ not-false _ (c .before .before .before .before .before .if1 .left), sym (c .before .before .before .before .blank-column2 .ensures) ∙ not-false _ (c .before .before .before .if2 .left), sym (c .before .before .blank-column3 .ensures) ∙ not-false _ (c .before .if3 .left)) (c .blank-column4 .ensures ∙ sym (and-true _))
 
 pub player-else-blank-spec : {M : Type 1} → statement M
 player-else-blank-spec =
@@ -46,6 +41,4 @@ player-else-blank-spec =
     blank-column-requires-3
     returns-3
     blank-column-requires-4
-    returns-4
-    rounds-else-blank-requires
-    returns-5)
+    returns-4)

@@ -1,12 +1,13 @@
--- `rows::slots_of` meets its contract. The loop's invariant: the first i rounds are read; those that the line does not reach are blank. Assumes nothing.
+-- `rows::slots_of` meets its contract. The loop's invariant: the first i rounds are read. Those that the line does not reach are blank. Assumes nothing.
 use native.Mathlib.Omega.{arith}
 use native.Mathlib.Nat.{lt-of-lt-of-le}
 use mathlib.Core.Path.{sym, ap, _∙_}
 use Prim.Native.Nat.{_≤_, _-_}
+use borrow.Author.Tests.{not-true, not-false}
 use Rattle.fields.proofs.Cases.{value-said, none-said}
 use Rattle.rows.specs.Rows.{slotSays}
-use Rattle.rows.proofs.PlayerRounds.{Read, none-read, round-bad, round-more, all-read}
-use Rattle.rows.proofs.Reach.{others-blank}
+use Rattle.rows.proofs.PlayerRounds.{Read, none-read, gaps-bad, round-bad, round-more, end-bad, all-read}
+use Rattle.rows.proofs.Reach.{others-blank, others-between}
 use borrow.Author.Needs.{needs}
 use Rattle.rows.proofs.slots_of.Statement.{statement}
 use Rattle.rows.proofs.slots_of.Tie as tie
@@ -20,6 +21,24 @@ abbrev μ-loop : tie.MeasureT-loop
 loop-holds : tie.Need-loop-holds Inv-loop μ-loop
 loop-holds c = (search needs, none-read (c .before .args .line .now))
 
+mul-round-else-blank : tie.Need-mul-round-else-blank Inv-loop μ-loop
+mul-round-else-blank c = search needs
+
+add-round-else-blank : tie.Need-add-round-else-blank Inv-loop μ-loop
+add-round-else-blank c = search needs
+
+round-else-blank-requires : tie.Need-round-else-blank-requires Inv-loop μ-loop
+round-else-blank-requires c κs = search needs
+
+no-slots-requires : tie.Need-no-slots-requires Inv-loop μ-loop
+no-slots-requires c κs = tt
+
+returns : tie.Need-returns Inv-loop μ-loop
+returns c =
+    let l = c .before .before .before .before in
+    let s = l .before .before in
+    gaps-bad (s .args .line .now) (l .loop .i) (l .loop .ids) (l .loop .colours) (l .loop .results) (l .loop .inv .1) (lt-of-lt-of-le (c .before .before .before .loop-test .taken) (s .pre .most)) (sym (c .before .before .round-else-blank .ensures) ∙ not-true _ (c .before .if1 .taken)) (c .no-slots .ensures)
+
 add-slot-of : tie.Need-add-slot-of Inv-loop μ-loop
 add-slot-of c = search needs
 
@@ -32,14 +51,14 @@ enum-known-id c = search needs
 enum-told : tie.Need-enum-told Inv-loop μ-loop
 enum-told c = search needs
 
-no-slots-requires : tie.Need-no-slots-requires Inv-loop μ-loop
-no-slots-requires c κs = tt
+no-slots-requires-2 : tie.Need-no-slots-requires-2 Inv-loop μ-loop
+no-slots-requires-2 c κs = tt
 
-returns : tie.Need-returns Inv-loop μ-loop
-returns c =
-    let l = c .before .before .before .before .before in
-    round-bad (c .before .before .before .before .before .before .before .args .line .now) (l .loop .i) (l .loop .ids) (l .loop .colours) (l .loop .results) (l .loop .inv .1) (lt-of-lt-of-le (c .before .before .before .before .loop-test .taken) (l .before .before .pre .most))
-    (none-said _ (sym (c .before .before .before .slot-of .ensures) ∙ ap slotSays (c .before .enum-told .given .1))) (c .no-slots .ensures)
+returns-2 : tie.Need-returns-2 Inv-loop μ-loop
+returns-2 c =
+    let l = c .before .before .before .before .before .before .before in
+    let s = l .before .before in
+    round-bad (s .args .line .now) (l .loop .i) (l .loop .ids) (l .loop .colours) (l .loop .results) (l .loop .inv .1) (lt-of-lt-of-le (c .before .before .before .before .before .before .loop-test .taken) (s .pre .most)) (sym (c .before .before .before .before .before .round-else-blank .ensures) ∙ not-false _ (c .before .before .before .before .if1 .left)) (none-said _ (sym (c .before .before .before .slot-of .ensures) ∙ ap slotSays (c .before .enum-told .given .1))) (c .no-slots2 .ensures)
 
 mul-ids : tie.Need-mul-ids Inv-loop μ-loop
 mul-ids c = search needs
@@ -61,18 +80,31 @@ loop-less c = search needs
 
 loop-again : tie.Need-loop-again Inv-loop μ-loop
 loop-again c =
-    let l = c .before .before .before .before .before in (
+    let l = c .before .before .before .before .before .before .before in
+    let s = l .before .before in (
       search needs,
-      round-more (c .before .before .before .before .before .before .before .args .line .now) (l .loop .i) (l .loop .ids) (l .loop .colours) (l .loop .results) (l .loop .inv .1) (lt-of-lt-of-le (c .before .before .before .before .loop-test .taken) (l .before .before .pre .most)) _
-          (value-said _ _ (sym (c .before .before .before .slot-of .ensures) ∙ ap slotSays (c .before .id .given .1))),
+      round-more (s .args .line .now) (l .loop .i) (l .loop .ids) (l .loop .colours) (l .loop .results) (l .loop .inv .1) (lt-of-lt-of-le (c .before .before .before .before .before .before .loop-test .taken) (s .pre .most)) (sym (c .before .before .before .before .before .round-else-blank .ensures) ∙ not-false _ (c .before .before .before .before .if1 .left)) _ (value-said _ _ (sym (c .before .before .before .slot-of .ensures) ∙ ap slotSays (c .before .id .given .1))),
     )
 
-returns-2 : tie.Need-returns-2 Inv-loop μ-loop
-returns-2 c =
-    let l = c .before in
+blank-from-requires : tie.Need-blank-from-requires Inv-loop μ-loop
+blank-from-requires c κs = tt
+
+no-slots-requires-3 : tie.Need-no-slots-requires-3 Inv-loop μ-loop
+no-slots-requires-3 c κs = tt
+
+returns-3 : tie.Need-returns-3 Inv-loop μ-loop
+returns-3 c =
+    let l = c .before .before .before .before in
     let s = l .before .before in
     let past : s .args .reach ≤ l .loop .i = omega arith in
-    all-read (s .args .line .now) (l .loop .i) (l .loop .ids) (l .loop .colours) (l .loop .results) (l .loop .inv .1) (others-blank (s .args .line .now) (s .args .reach) (s .pre) (l .loop .i) past (l .loop .inv .0))
+    end-bad (s .args .line .now) (l .loop .i) (l .loop .ids) (l .loop .colours) (l .loop .results) (l .loop .inv .1) (others-between (s .args .line .now) (s .args .reach) (s .pre) (l .loop .i) past (l .loop .inv .0) ∙ sym (c .before .before .blank-from .ensures) ∙ not-true _ (c .before .if2 .taken)) (c .no-slots3 .ensures)
+
+returns-4 : tie.Need-returns-4 Inv-loop μ-loop
+returns-4 c =
+    let l = c .before .before .before in
+    let s = l .before .before in
+    let past : s .args .reach ≤ l .loop .i = omega arith in
+    all-read (s .args .line .now) (l .loop .i) (l .loop .ids) (l .loop .colours) (l .loop .results) (l .loop .inv .1) (others-between (s .args .line .now) (s .args .reach) (s .pre) (l .loop .i) past (l .loop .inv .0) ∙ sym (c .before .blank-from .ensures) ∙ not-false _ (c .if2 .left)) (others-blank (s .args .line .now) (s .args .reach) (s .pre) (l .loop .i) past (l .loop .inv .0))
 
 pub slots-of-spec : {M : Type 1} → statement M
 slots-of-spec =
@@ -81,12 +113,17 @@ slots-of-spec =
     Inv-loop
     μ-loop
     loop-holds
+    mul-round-else-blank
+    add-round-else-blank
+    round-else-blank-requires
+    no-slots-requires
+    returns
     add-slot-of
     slot-of-requires
     enum-known-id
     enum-told
-    no-slots-requires
-    returns
+    no-slots-requires-2
+    returns-2
     mul-ids
     array-write-ids
     array-write-colours
@@ -94,4 +131,7 @@ slots-of-spec =
     add-i
     loop-less
     loop-again
-    returns-2)
+    blank-from-requires
+    no-slots-requires-3
+    returns-3
+    returns-4)
