@@ -24,9 +24,10 @@ by_rt() {
     rm -f "$started"
 }
 
-# run_x86 PROGRAM WORDS..: by the kit's loader and C library, as rt does, and by its emulator where the processor is not x86-64.
+# run_x86 PROGRAM WORDS..: by the kit's loader and C library, as rt does, and by its emulator where the processor is not x86-64. Of the emulator's processors
+# the plainest is taken: with the usual one the C library clears memory by an instruction that is emulated byte by byte.
 run_x86() {
     emulator=$toolchain/bin/qemu-x86_64
     [ -x "$emulator" ] || emulator=
-    ${emulator:+"$emulator"} "$toolchain/lib/ld-linux-x86-64.so.2" --library-path "$toolchain/lib" "$@"
+    ${emulator:+"$emulator" -cpu qemu64} "$toolchain/lib/ld-linux-x86-64.so.2" --library-path "$toolchain/lib" "$@"
 }
