@@ -2,11 +2,14 @@
 use mathlib.Core.Path.{_≡_, refl, sym, ap, _∙_}
 use mathlib.Core.Bool.{Bool, true, _&&_, or-true}
 use mathlib.Core.List.{List}
-use Prim.Native.Nat.{ℕ}
+use Prim.Native.Nat.{ℕ, _<_}
 use Prim.Native.Char.{code}
+use native.Mathlib.Decide.{ℕ-discrete}
+use native.Mathlib.Omega.{arith}
 use borrow.Author.Tests.{eq-eqb, ne-eqb, eqb-true}
 use lib.Dec.{eqb}
-use lib.ListN.{getD}
+use lib.ListN.{length, getD, set, replicate, length-set, getD-replicate}
+use lib.Seq.{getD-set-same, getD-set-other}
 use Rattle.kit.specs.Lists.{among}
 use Rattle.kit.proofs.Bools.{and}
 use Rattle.types.specs.declared.Place.{Place}
@@ -21,11 +24,18 @@ use Rattle.index.specs.Index.{asPlaced}
 use Rattle.checks.specs.Results.{entry}
 use Rattle.checks.specs.Laws.{four}
 use Rattle.checks.proofs.Kept.{game-somebody, bye-kept, mutual-alone, fitting-alone, mutual-kept, fitting-kept}
-use Rattle.glances.specs.Glance.{Fits, Answered, Opposite, KeepsEntry}
+use Rattle.glances.specs.Glance.{Fits, Answered, Answers, Opposite, KeepsEntry}
 
 -- ---- two results
-pub answered : {a b result : ℕ} → Fits a b → result ≡ a → Answered result b
-answered {a} {b} {result} h e = λ _. (ap (λ (x : ℕ). among x gameResults) e ∙ h .0, ap (λ (x : ℕ). fits x b) e ∙ h .1)
+pub answers-none : Answers (replicate 256 0)
+answers-none = record { long = refl; each = λ c l no-zero. absurd (no-zero (getD-replicate {A = ℕ} 256 c 0 0 l)) }
+
+pub answers-more : {cells : List ℕ} → Answers cells → (a b : ℕ) → a < 256 → Fits a b → Answers (set cells a b)
+answers-more {cells} h a b l fit = record { long = length-set cells a b ∙ h .long; each = λ c k. go c k (ℕ-discrete c a) }
+  where
+    go : (c : ℕ) → c < 256 → Dec (c ≡ a) → Answered c (getD (set cells a b) c 0)
+    go c k (yes e) = λ _. rw (e, getD-set-same cells a b 0 (omega (arith, l, h .long))) fit
+    go c k (no d) = rw (getD-set-other cells a c b 0 d) (h .each c k)
 
 pub nobody-came : (a b : ℕ) → eqb a (code "-") && eqb b (code "-") ≡ true → Fits a b
 unfolding fits

@@ -21,6 +21,11 @@ Fits a b = (among a gameResults ≡ true) × (fits a b ≡ true)
 abbrev pub Answered : ℕ → ℕ → Type 0
 Answered result answer = (answer ≡ 0 → ⊥) → Fits result answer
 
+-- a cell for each byte
+pub record Answers (cells : List ℕ) : Type 0 where
+  pub long : length cells ≡ 256
+  pub each : (result : ℕ) → result < 256 → Answered result (getD cells result 0)
+
 -- two colours of one game
 abbrev pub Opposite : ℕ → ℕ → Type 0
 Opposite a b = (among a gameColours ≡ true) × (eqb b a ≡ false)

@@ -13,35 +13,38 @@ ghost use Rattle.join.specs.Grid.{firstFrom};
 ghost use Rattle.join.specs.Check.{pastCell, brokenCell};
 ghost use Rattle.index.specs.Index.{Indexed, IsIndex};
 ghost use Rattle.checks.specs.Laws.{four, Long};
-ghost use Rattle.glances.specs.Glance.{Answered, Fits, Opposite, KeepsEntry, KeepsRow, KeepsRows, Noted, OnceU, BlankRow};
+ghost use Rattle.glances.specs.Glance.{Answers, Fits, Opposite, KeepsEntry, KeepsRow, KeepsRows, Noted, OnceU, BlankRow};
 use index::Placed;
 use index::START_CELLS;
 use types::MOST_ROUNDS;
 use types::Place;
 use types::StartNumber;
 
-// The result that stands opposite a game's, or 0. Opposite `-` there may be `-` too.
-fn answer_to(result: u8) -> u8
-    ensures { λ r. ⌜ Answered result r ⌝ }
+// A cell for each byte.
+const BYTES: usize = 256;
+
+// The result that stands opposite each result of a game, at its byte; 0 at every other. Opposite `-` there may be `-` too. Made once for all entries.
+fn answers() -> [u8; BYTES]
+    ensures { λ r. ⌜ Answers r ⌝ }
 {
-    match result {
-        b'1' => b'0',
-        b'0' => b'1',
-        b'=' => b'=',
-        b'W' => b'L',
-        b'L' => b'W',
-        b'D' => b'D',
-        b'+' => b'-',
-        b'-' => b'+',
-        _ => 0,
-    }
+    let mut opposite = [0u8; BYTES];
+    opposite[b'1' as usize] = b'0';
+    opposite[b'0' as usize] = b'1';
+    opposite[b'=' as usize] = b'=';
+    opposite[b'W' as usize] = b'L';
+    opposite[b'L' as usize] = b'W';
+    opposite[b'D' as usize] = b'D';
+    opposite[b'+' as usize] = b'-';
+    opposite[b'-' as usize] = b'+';
+    opposite
 }
 
 // Whether two results are those of one game.
-fn are_one_game(result: u8, theirs: u8) -> bool
+fn are_one_game(result: u8, theirs: u8, opposite: &[u8; BYTES]) -> bool
+    requires { ⌜ Answers (now opposite) ⌝ }
     ensures { λ r. ⌜ (r ≡ true → Fits result theirs) ⌝ }
 {
-    let answer = answer_to(result);
+    let answer = opposite[result as usize];
     if answer == 0 {
         return false;
     }
@@ -71,9 +74,10 @@ fn keeps_entry(
     colours: &[u8],
     results: &[u8],
     index: &[u8; START_CELLS],
+    opposite: &[u8; BYTES],
 ) -> bool
     requires { ⌜ (place .0 < mostPlayers) × (1 ≤ round) × (round ≤ mostRounds) ⌝ }
-    requires { ⌜ (entryCells ≤ length (now opponents)) × (entryCells ≤ length (now colours)) × (entryCells ≤ length (now results)) × IsIndex (now index) ⌝ }
+    requires { ⌜ (entryCells ≤ length (now opponents)) × (entryCells ≤ length (now colours)) × (entryCells ≤ length (now results)) × IsIndex (now index) × Answers (now opposite) ⌝ }
     ensures { λ r. ⌜ (r ≡ true → (starts : List ℕ) (n : ℕ) → getD starts (place .0) 0 ≡ start .0 → Indexed starts n (now (index .entry)) → KeepsEntry n (four starts (now (opponents .entry)) (now (colours .entry)) (now (results .entry))) (place .0) round) ⌝ }
 {
     let i = tables::cell_of(place, round);
@@ -94,7 +98,7 @@ fn keeps_entry(
     if !are_opposite(colour, colours[j]) {
         return false;
     }
-    are_one_game(result, results[j])
+    are_one_game(result, results[j], opposite)
 }
 
 // Whether a player's entries do, up to a round.
@@ -105,17 +109,27 @@ fn keeps_row(
     colours: &[u8],
     results: &[u8],
     index: &[u8; START_CELLS],
+    opposite: &[u8; BYTES],
     rounds: u32,
 ) -> bool
     requires { ⌜ (place .0 < mostPlayers) × (rounds ≤ mostRounds) ⌝ }
-    requires { ⌜ Long (now starts) (now opponents) (now colours) (now results) × IsIndex (now index) ⌝ }
+    requires { ⌜ Long (now starts) (now opponents) (now colours) (now results) × IsIndex (now index) × Answers (now opposite) ⌝ }
     ensures { λ r. ⌜ (r ≡ true → (n : ℕ) → Indexed (now (starts .entry)) n (now (index .entry)) → KeepsRow n (four (now (starts .entry)) (now (opponents .entry)) (now (colours .entry)) (now (results .entry))) (place .0) rounds) ⌝ }
 {
     let own = tables::own_cell(place);
     let start = StartNumber(starts[own]);
     let mut j = 0;
     while j < rounds {
-        if !keeps_entry(place, j + 1, start, opponents, colours, results, index) {
+        if !keeps_entry(
+            place,
+            j + 1,
+            start,
+            opponents,
+            colours,
+            results,
+            index,
+            opposite,
+        ) {
             return false;
         }
         j += 1;
@@ -130,17 +144,27 @@ fn keeps_rows(
     colours: &[u8],
     results: &[u8],
     index: &[u8; START_CELLS],
+    opposite: &[u8; BYTES],
     n: usize,
     rounds: u32,
 ) -> bool
-    requires { ⌜ rounds ≤ mostRounds ⌝ }
+    requires { ⌜ (rounds ≤ mostRounds) × Answers (now opposite) ⌝ }
     requires { ⌜ Long (now starts) (now opponents) (now colours) (now results) × Indexed (now starts) n (now index) ⌝ }
     ensures { λ r. ⌜ (r ≡ true → KeepsRows n (four (now (starts .entry)) (now (opponents .entry)) (now (colours .entry)) (now (results .entry))) n rounds) ⌝ }
 {
     let mut p = 0;
     while p < n {
         let place = Place(p as u32);
-        if !keeps_row(place, starts, opponents, colours, results, index, rounds) {
+        if !keeps_row(
+            place,
+            starts,
+            opponents,
+            colours,
+            results,
+            index,
+            opposite,
+            rounds,
+        ) {
             return false;
         }
         p += 1;
@@ -228,7 +252,17 @@ pub fn all_lawful(
     if MOST_ROUNDS < rounds as usize {
         return false;
     }
-    if !keeps_rows(starts, opponents, colours, results, index, n, rounds) {
+    let opposite = answers();
+    if !keeps_rows(
+        starts,
+        opponents,
+        colours,
+        results,
+        index,
+        &opposite,
+        n,
+        rounds,
+    ) {
         return false;
     }
     keeps_one_u(results, n)

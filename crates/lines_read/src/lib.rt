@@ -70,11 +70,7 @@ pub fn refused(number: u32, line: LineNumber, round: u32, fill: usize) -> CoreAn
 }
 
 // The answer of an acceptance.
-fn accepted(
-    c: Counts,
-    records: [Acceleration; MOST_ACCELERATIONS],
-    rounds: u32,
-) -> CoreAnswer
+fn accepted(c: Counts, records: [Acceleration; MOST_ACCELERATIONS], rounds: u32) -> CoreAnswer
     requires { ⌜ (c .players ≤ mostPlayers) × Small c ⌝ }
     ensures { λ r. ⌜ r ≡ acceptedCore (asCount c records) rounds ⌝ }
 {

@@ -104,12 +104,13 @@ module _ (x : List ℕ) (n : ℕ) (a : Acceleration) (long : length x ≡ record
 
   here : recordAt stored n ≡ a
   here =
-      rw
-      (first x (5 * n) (a .points) (a .«first_round») (a .«last_round») (a .«first_start») (a .«last_start») room,
-      second x (5 * n) (a .points) (a .«first_round») (a .«last_round») (a .«first_start») (a .«last_start») room,
-      third x (5 * n) (a .points) (a .«first_round») (a .«last_round») (a .«first_start») (a .«last_start») room,
-      fourth x (5 * n) (a .points) (a .«first_round») (a .«last_round») (a .«first_start») (a .«last_start») room,
-      fifth x (5 * n) (a .points) (a .«first_round») (a .«last_round») (a .«first_start») (a .«last_start») room)
+      rw (
+        first x (5 * n) (a .points) (a .«first_round») (a .«last_round») (a .«first_start») (a .«last_start») room,
+        second x (5 * n) (a .points) (a .«first_round») (a .«last_round») (a .«first_start») (a .«last_start») room,
+        third x (5 * n) (a .points) (a .«first_round») (a .«last_round») (a .«first_start») (a .«last_start») room,
+        fourth x (5 * n) (a .points) (a .«first_round») (a .«last_round») (a .«first_start») (a .«last_start») room,
+        fifth x (5 * n) (a .points) (a .«first_round») (a .«last_round») (a .«first_start») (a .«last_start») room,
+      )
       refl
 
   out : (j m : ℕ) → m ≤ 4 → (j ≡ n → ⊥) → (k : ℕ) → k ≤ 4 → 5 * j + m ≡ 5 * n + k → ⊥
@@ -120,9 +121,13 @@ module _ (x : List ℕ) (n : ℕ) (a : Acceleration) (long : length x ≡ record
 
   there : (j : ℕ) → (j ≡ n → ⊥) → recordAt stored j ≡ recordAt x j
   there j d =
-      rw
-      (elsewhere x (5 * n) (a .points) (a .«first_round») (a .«last_round») (a .«first_start») (a .«last_start») (5 * j) (λ k lk e. out j 0 (omega arith) d k lk (omega (arith, e))),
-      away j 1 (omega arith) d, away j 2 (omega arith) d, away j 3 (omega arith) d, away j 4 (omega arith) d)
+      rw (
+        elsewhere x (5 * n) (a .points) (a .«first_round») (a .«last_round») (a .«first_start») (a .«last_start») (5 * j) (λ k lk e. out j 0 (omega arith) d k lk (omega (arith, e))),
+        away j 1 (omega arith) d,
+        away j 2 (omega arith) d,
+        away j 3 (omega arith) d,
+        away j 4 (omega arith) d,
+      )
       refl
 
   pub stored-is : recordsOf stored ≡ set (recordsOf x) n a

@@ -9,21 +9,24 @@ use Rattle.glances.proofs.all_lawful.Tie as tie
 returns : tie.Need-returns
 returns c = λ e. clash e
 
+answers-requires : tie.Need-answers-requires
+answers-requires c κs = tt
+
 keeps-rows-requires : tie.Need-keeps-rows-requires
-keeps-rows-requires c κs = (c .if1 .left, c .before .before .before .before .before .pre)
+keeps-rows-requires c κs = ((c .before .before .if1 .left, c .before .answers .ensures), c .before .before .before .before .before .before .before .pre)
 
 returns-2 : tie.Need-returns-2
 returns-2 c = λ e. clash e
 
 keeps-one-u-requires : tie.Need-keeps-one-u-requires
-keeps-one-u-requires c κs = (c .before .before .before .before .before .before .before .pre .1 .few, c .before .before .before .before .before .before .before .pre .0 .results-long)
+keeps-one-u-requires c κs = (c .before .before .before .before .before .before .before .before .before .pre .1 .few, c .before .before .before .before .before .before .before .before .before .pre .0 .results-long)
 
 returns-3 : tie.Need-returns-3
 returns-3 c =
-    let a = c .before .before .before .before .before .before .before .before .args in
+    let a = c .before .before .before .before .before .before .before .before .before .before .args in
     λ e.
-    none-found (a .n) (a .rounds) (four (a .starts .now) (a .opponents .now) (a .colours .now) (a .results .now)) (c .before .before .keeps-rows .ensures (not-false _ (c .before .if2 .left))) (c .keeps-one-u .ensures e) (c .before .before .before .if1 .left)
+    none-found (a .n) (a .rounds) (four (a .starts .now) (a .opponents .now) (a .colours .now) (a .results .now)) (c .before .before .keeps-rows .ensures (not-false _ (c .before .if2 .left))) (c .keeps-one-u .ensures e) (c .before .before .before .before .before .if1 .left)
 
 pub all-lawful-spec : {M : Type 1} → statement M
 all-lawful-spec =
-    tie.close (tie.spec returns keeps-rows-requires returns-2 keeps-one-u-requires returns-3)
+    tie.close (tie.spec returns answers-requires keeps-rows-requires returns-2 keeps-one-u-requires returns-3)

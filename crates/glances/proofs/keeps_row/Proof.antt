@@ -14,19 +14,19 @@ use Rattle.glances.proofs.keeps_row.Statement.{statement}
 use Rattle.glances.proofs.keeps_row.Tie as tie
 
 abbrev Inv-loop : tie.InvT-loop
-Inv-loop place starts opponents colours results index rounds own start j₀ j = (n : ℕ) → Indexed starts n index → KeepsRow n (four starts opponents colours results) (place .0) j
+Inv-loop place starts opponents colours results index opposite rounds own start j₀ j = (n : ℕ) → Indexed starts n index → KeepsRow n (four starts opponents colours results) (place .0) j
 
 abbrev μ-loop : tie.MeasureT-loop
-μ-loop place starts opponents colours results index rounds own start j₀ j = rounds - j
+μ-loop place starts opponents colours results index opposite rounds own start j₀ j = rounds - j
 
 own-cell-requires : tie.Need-own-cell-requires Inv-loop μ-loop
 own-cell-requires c κs = search needs
 
-mul-t11 : tie.Need-mul-t11 Inv-loop μ-loop
-mul-t11 c = search needs
+mul-t12 : tie.Need-mul-t12 Inv-loop μ-loop
+mul-t12 c = search needs
 
-shared-slice-read-t13 : tie.Need-shared-slice-read-t13 Inv-loop μ-loop
-shared-slice-read-t13 c = search needs
+shared-slice-read-t14 : tie.Need-shared-slice-read-t14 Inv-loop μ-loop
+shared-slice-read-t14 c = search needs
 
 loop-holds : tie.Need-loop-holds Inv-loop μ-loop
 loop-holds c = λ n x k l. absurd (omega arith)
@@ -38,7 +38,7 @@ keeps-entry-requires : tie.Need-keeps-entry-requires Inv-loop μ-loop
 keeps-entry-requires c κs =
     let start : tie.Start Inv-loop μ-loop = c .before .before .before .before .before .before .before .before in
     let long = start .pre .1 .0 in
-    ((start .pre .0 .0, omega arith, omega (arith, c .loop-test .taken, start .pre .0 .1)), (long .opponents-long, long .colours-long, long .results-long, start .pre .1 .1))
+    ((start .pre .0 .0, omega arith, omega (arith, c .loop-test .taken, start .pre .0 .1)), (long .opponents-long, long .colours-long, long .results-long, start .pre .1 .1, start .pre .1 .2))
 
 returns : tie.Need-returns Inv-loop μ-loop
 returns c = λ e. clash e
@@ -66,8 +66,8 @@ keeps-row-spec =
     Inv-loop
     μ-loop
     own-cell-requires
-    mul-t11
-    shared-slice-read-t13
+    mul-t12
+    shared-slice-read-t14
     loop-holds
     add-keeps-entry
     keeps-entry-requires

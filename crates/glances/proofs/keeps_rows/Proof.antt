@@ -11,22 +11,22 @@ use Rattle.glances.proofs.keeps_rows.Statement.{statement}
 use Rattle.glances.proofs.keeps_rows.Tie as tie
 
 abbrev Inv-loop : tie.InvT-loop
-Inv-loop starts opponents colours results index n rounds p₀ p = KeepsRows n (four starts opponents colours results) p rounds
+Inv-loop starts opponents colours results index opposite n rounds p₀ p = KeepsRows n (four starts opponents colours results) p rounds
 
 abbrev μ-loop : tie.MeasureT-loop
-μ-loop starts opponents colours results index n rounds p₀ p = n - p
+μ-loop starts opponents colours results index opposite n rounds p₀ p = n - p
 
 loop-holds : tie.Need-loop-holds Inv-loop μ-loop
 loop-holds c = λ k l. absurd (omega arith)
 
-cast-t11 : tie.Need-cast-t11 Inv-loop μ-loop
-cast-t11 c = search needs
+cast-t12 : tie.Need-cast-t12 Inv-loop μ-loop
+cast-t12 c = search needs
 
 keeps-row-requires : tie.Need-keeps-row-requires Inv-loop μ-loop
 keeps-row-requires c κs =
     let start : tie.Start Inv-loop μ-loop = c .before .before .before .before .before .before in
     let x = start .pre .1 .1 in
-    ((omega (arith, c .loop-test .taken, x .few), start .pre .0), (start .pre .1 .0, record { starts = start .args .starts .now; players = start .args .n; indexed = x }))
+    ((omega (arith, c .loop-test .taken, x .few), start .pre .0 .0), (start .pre .1 .0, record { starts = start .args .starts .now; players = start .args .n; indexed = x }, start .pre .0 .1))
 
 returns : tie.Need-returns Inv-loop μ-loop
 returns c = λ e. clash e
@@ -54,7 +54,7 @@ keeps-rows-spec =
     Inv-loop
     μ-loop
     loop-holds
-    cast-t11
+    cast-t12
     keeps-row-requires
     returns
     add-p
