@@ -3,7 +3,7 @@
 
 Without words it prints all tables (as Markdown). `profile read 3` prints the functions of both programs for row 3 of the first table, dearest first.
 bench/README.md says what is needed."""
-import datetime, glob, os, platform, shutil, statistics, subprocess, sys
+import datetime, glob, os, platform, shutil, signal, statistics, subprocess, sys
 
 sys.dont_write_bytecode = True
 import files
@@ -93,7 +93,10 @@ def by_valgrind(arguments):
     for dump in sorted(glob.glob(os.path.join(WORK, "profile.*")), key=lambda name: int(name.rsplit(".", 1)[1])):
         told = run(["callgrind_annotate", "--threshold=100", "--auto=no", dump]).splitlines()
         pairs = [line.split("%)", 1) for line in told if "%)" in line and "PROGRAM TOTALS" not in line]
-        made.append([(int(front.split()[0].replace(",", "")), function.strip()) for front, function in pairs])
+        functions = [(int(front.split()[0].replace(",", "")), function.strip()) for front, function in pairs]
+        with open(dump) as lines:
+            total = next(int(line.split()[1]) for line in lines if line.startswith(("summary:", "totals:")))
+        made.append(functions + [(total - sum(count for count, _ in functions), "(others)")])
     return made
 
 
@@ -195,24 +198,35 @@ def profile(call, row):
         fail("no instructions are counted here: bench/README.md says what that needs")
     _, data, lent = files.measured()[int(row) - 1]
     made = counter()(kept_pair(f"row{row}", data, lent))
+    if len(made) <= 2 * CALLS.index(call):
+        fail(f"row {row} is refused: there is no reading to {call}")
     for j, maker in enumerate(("ours", "plain")):
         functions = made[2 * CALLS.index(call) + j]
         print(f"{call}, {maker}: {sum(count for count, _ in functions):,}")
-        print("".join(f"{count:12,}  {function}\n" for count, function in functions))
+        print("".join(f"{count:12,}  {function}\n" for count, function in functions if count))
 
 
 def main(words):
     processes = 9
     if "--processes" in words:
         at = words.index("--processes")
+        if not "".join(words[at + 1:at + 2]).isdigit() or int(words[at + 1]) == 0:
+            fail(__doc__)
         processes = int(words[at + 1])
         del words[at:at + 2]
-    build()
-    if words[:1] == ["profile"] and len(words) == 3:
+    tables = {"ratios": lambda: ratios(processes), "linear": linear, "stack": stack}
+    if words[:1] == ["profile"]:
+        if len(words) != 3 or words[1] not in CALLS or words[2] not in [str(i) for i, _ in enumerate(files.measured(), 1)]:
+            fail(__doc__)
+        build()
         profile(*words[1:])
-        return
-    for word in words or ["ratios", "linear", "stack"]:
-        {"ratios": lambda: ratios(processes), "linear": linear, "stack": stack}.get(word, lambda: fail(__doc__))()
+    elif set(words) <= set(tables):
+        build()
+        for word in words or tables:
+            tables[word]()
+    else:
+        fail(__doc__)
 
 
+signal.signal(signal.SIGPIPE, signal.SIG_DFL)
 main(sys.argv[1:])
