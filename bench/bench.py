@@ -60,6 +60,8 @@ def build():
         objects.append(os.path.join(WORK, f"{name}.o"))
         run([f"{tools}/bin/clang", *FLAGS, "-std=c11", "-Wall", "-Wextra", "-DPENUMBRICO_NO_HEADERS", f"-I{ROOT}/include",
              "-c", f"{HERE}/{name}.c", "-o", objects[-1]])
+    if counter() is by_emulator:
+        run(["cc", "-std=c11", "-Wall", "-Wextra", "-O2", "-fPIC", "-shared", "-o", PLUGIN, f"{HERE}/count.c"])
     first = [f"{libraries}/{name}" for name in ("Scrt1.o", "crti.o", "crtbeginS.o")]
     last = [f"{libraries}/{name}" for name in ("libc.so.6", "libc_nonshared.a", "libgcc.a", "libgcc_s.so.1", "crtendS.o", "crtn.o")]
     run([f"{tools}/bin/ld.lld", "-pie", "--gc-sections", "-z", "now", "-dynamic-linker", f"{libraries}/ld-linux-x86-64.so.2", "-rpath", libraries,
@@ -103,7 +105,6 @@ def by_valgrind(arguments):
 def by_emulator(arguments):
     """The same, as our plugin tells it to an emulator."""
     told = os.path.join(WORK, "profile.txt")
-    run(["cc", "-O2", "-fPIC", "-shared", "-o", PLUGIN, os.path.join(HERE, "count.c")])
     run(["qemu-x86_64", "-cpu", "qemu64", "-plugin", f"{PLUGIN},out={told}", DRIVER, "count", *arguments])
     with open(told) as file:
         blocks = [block.splitlines() for block in file.read().split("\n\n") if block]
@@ -120,6 +121,8 @@ def counter():
 def counts(arguments):
     """Instructions by call and maker."""
     made = [sum(count for count, _ in functions) for functions in counter()(arguments)]
+    if len(made) not in (2, 2 * len(CALLS)):
+        fail(f"{len(made)} calls were counted")
     return {(call, maker): [made[2 * i + j]] for i, call in enumerate(CALLS[:len(made) // 2]) for j, maker in enumerate(("ours", "plain"))}
 
 

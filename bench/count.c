@@ -1,13 +1,14 @@
-/* A plugin for qemu-user (plugin interface 1: qemu 6 to 8): the instructions that run inside the function `measured` of the emulated program, callees
-   included, by the function that they stand in. For hosts where valgrind cannot run an x86-64 program.
+/* A plugin for qemu-user (plugin interface 1: qemu 6 to 8): the instructions that run inside the function `measured` of the emulated program but for its last
+   return, callees included, by the function that they stand in. For hosts where valgrind is not there or cannot run an x86-64 program.
 
-       gcc -O2 -fPIC -shared -o count.so count.c
+       cc -O2 -fPIC -shared -o count.so count.c
        qemu-x86_64 -cpu qemu64 -plugin ./count.so,out=FILE PROGRAM ..
 
    FILE has a line `COUNT FUNCTION` for each function of each call of `measured`, and an empty line after each call. What has no name in the program is the C
    library's. */
 #include <stdint.h>
 #include <stdio.h>
+#include <stdlib.h>
 #include <string.h>
 
 /* What is used of qemu's header, which the package does not carry. */
@@ -34,13 +35,19 @@ static int used;
 static uint64_t entry; /* the address of `measured`; 0 until it is seen */
 static FILE *out;
 
+static void fail(const char *words)
+{
+    fprintf(stderr, "count: %s\n", words);
+    exit(1);
+}
+
 static struct function *function_of(const char *name)
 {
     for (int i = 0; i < used; i++)
         if (functions[i].name == name || strcmp(functions[i].name, name) == 0)
             return &functions[i];
     if (used == FUNCTIONS)
-        return &functions[FUNCTIONS - 1];
+        fail("too many functions");
     functions[used].name = name;
     return &functions[used++];
 }
@@ -59,7 +66,8 @@ static void end(unsigned cpu, void *data)
         if (functions[i].count != 0)
             fprintf(out, "%llu %s\n", (unsigned long long)functions[i].count, functions[i].name);
     fprintf(out, "\n");
-    fflush(out);
+    if (fflush(out) != 0)
+        fail("the counts could not be written");
 }
 
 static void translated(plugin_id id, struct qemu_plugin_tb *block)

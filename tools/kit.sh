@@ -25,7 +25,7 @@ by_rt() {
 }
 
 # run_x86 PROGRAM WORDS..: by the kit's loader and C library, as rt does, and by its emulator where the processor is not x86-64. Of the emulator's processors
-# the plainest is taken: with the usual one the C library clears memory by an instruction that is emulated byte by byte.
+# the plainest is taken: with its default one the C library clears memory by an instruction that is emulated byte by byte.
 run_x86() {
     emulator=$toolchain/bin/qemu-x86_64
     [ -x "$emulator" ] || emulator=
