@@ -244,9 +244,9 @@ fn first_unkept(
     requires { ⌜ Long (now starts) (now opponents) (now colours) (now results) × Indexed (now starts) n (now index) ⌝ }
     ensures { λ r. ⌜ r ≡ asFound (firstFrom (brokenCell (asLaw kind) n rounds (four (now (starts .entry)) (now (opponents .entry)) (now (colours .entry)) (now (results .entry)))) 0 (n * mostRounds)) ⌝ }
 {
-    let turns = n * MOST_ROUNDS;
+    let end = n * MOST_ROUNDS;
     let mut k = 0;
-    while k < turns {
+    while k < end {
         if is_broken(kind, k, rounds, starts, opponents, colours, results, index) {
             return Found::At(k);
         }
@@ -271,10 +271,10 @@ fn first_second_u(results: &[u8], n: usize, rounds: u32) -> Found
     requires { ⌜ (n ≤ mostPlayers) × (entryCells ≤ length (now results)) ⌝ }
     ensures { λ r. ⌜ ((starts opponents colours : List ℕ) → r ≡ asFound (firstFrom (brokenCell one-U n rounds (four starts opponents colours (now (results .entry)))) 0 (n * mostRounds))) ⌝ }
 {
-    let turns = n * MOST_ROUNDS;
+    let end = n * MOST_ROUNDS;
     let mut seen = [false; MOST_ROUNDS];
     let mut k = 0;
-    while k < turns {
+    while k < end {
         let here = has_u(results, k);
         let flag = k % MOST_ROUNDS;
         let earlier = seen[flag];

@@ -59,10 +59,10 @@ pub fn rounds_seen(colours: &[u8], n: usize) -> u32
     requires { ⌜ (n ≤ mostPlayers) × (entryCells ≤ length (now colours)) ⌝ }
     ensures { λ r. ⌜ r ≡ roundsSeen (now (colours .entry)) n ⌝ }
 {
-    let turns = n * MOST_ROUNDS;
+    let end = n * MOST_ROUNDS;
     let mut most = 0;
     let mut k = 0;
-    while k < turns {
+    while k < end {
         most = greater(most, round_seen(colours, k));
         k += 1;
     }
@@ -84,9 +84,9 @@ pub fn first_past(colours: &[u8], n: usize, rounds: u32) -> Found
     requires { ⌜ (n ≤ mostPlayers) × (entryCells ≤ length (now colours)) ⌝ }
     ensures { λ r. ⌜ r ≡ asFound (firstFrom (pastCell rounds (now (colours .entry))) 0 (n * mostRounds)) ⌝ }
 {
-    let turns = n * MOST_ROUNDS;
+    let end = n * MOST_ROUNDS;
     let mut k = 0;
-    while k < turns {
+    while k < end {
         if is_past(rounds, colours, k) {
             return Found::At(k);
         }

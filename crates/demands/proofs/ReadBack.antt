@@ -1,6 +1,6 @@
 -- What the writer wrote, the reader accepts and reads back: the same answer, and the same in every listed cell, whatever tables it is lent. Said of the relations that are the
 -- contracts of the two calls. Assumes nothing.
-use mathlib.Core.Path.{_≡_, refl, sym, ap, _∙_, subst}
+use mathlib.Core.Path.{_≡_, sym, ap, _∙_, subst}
 use mathlib.Core.Bool.{true}
 use mathlib.Core.List.{List}
 use Prim.Native.Nat.{ℕ, _≤_, _<_}
@@ -9,16 +9,15 @@ use native.Mathlib.Omega.{arith}
 use lib.ListN.{length, getD, take}
 use lib.Seq.{length-take-le, getD-take, ext-getD}
 use Rattle.kit.specs.Table.{Holds}
-use Rattle.types.specs.declared.Acceleration.{Acceleration}
 use Rattle.types.specs.declared.Answer.{Answer}
 use Rattle.types.specs.declared.Written.{Written}
-use Rattle.law.specs.Sizes.{mostFile, mostPlayers, mostAccelerations, mostText}
+use Rattle.law.specs.Sizes.{mostPlayers, mostAccelerations, mostText}
 use Rattle.law.specs.Lines.{cr}
 use Rattle.law.specs.Tournament.{Tournament}
 use Rattle.law.specs.Lawful.{Lawful, noAcceleration}
 use Rattle.law.specs.Tables.{Tables, Lent, keptCells, entryCells, enoughLent, contentOf, HoldAll, answerOf}
 use Rattle.law.specs.Writing.{written}
-use Rattle.law.specs.Calls.{Reads, Denial, tables-short, no-reading, out-short, no-place, denialOf, writtenAnswer, WriteRefused, WriteDone, Writes, write-refused, write-done}
+use Rattle.law.specs.Calls.{Reads, Denial, tables-short, no-reading, out-short, no-place, denialOf, writtenAnswer, Writes, write-refused, write-done}
 use Rattle.law.proofs.ReadsOnce.{reads-lawful}
 use Rattle.written.proofs.Spelled.{written-spells}
 use Rattle.written.proofs.Lengths.{written-long}

@@ -6,7 +6,6 @@ use Prim.Native.Nat.{ℕ}
 use Prim.Native.Char.{code}
 use native.Mathlib.Omega.{arith}
 use lib.ListN.{getD}
-use Rattle.kit.specs.Ascii.{ascii}
 use Rattle.kit.specs.Lists.{all, flat, top}
 use Rattle.kit.specs.First.{AllOf}
 use Rattle.types.specs.declared.Answer.{Answer}

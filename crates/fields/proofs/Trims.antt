@@ -4,12 +4,11 @@ use mathlib.Core.Bool.{Bool, true, false, _&&_}
 use mathlib.Core.List.{List, [], _∷_, _++_}
 use Prim.Native.Nat.{ℕ, suc, _+_, _-_, _≤_, _<_}
 use native.Mathlib.Omega.{arith}
-use lib.ListN.{length, getD, take, replicate}
-use lib.Seq.{take-suc, take-append-seam, length-take-le}
+use lib.ListN.{length, getD, take}
+use lib.Seq.{take-suc, length-take-le}
 use borrow.Author.Tests.{ne-eqb}
 use Rattle.law.specs.Columns.{blank, isBlank}
-use Rattle.law.specs.Text.{Trimmed}
-use Rattle.law.proofs.FieldsRead.{consUnless, isNil, trim, trimmed}
+use Rattle.law.proofs.FieldsRead.{consUnless, isNil, trim}
 
 trim-blank : (l : List ℕ) → trim (l ++ (blank ∷ [])) ≡ trim l
 trim-blank [] = refl
@@ -40,9 +39,3 @@ module _ (l : List ℕ) (n : ℕ) (some : 0 < n) (in-line : n ≤ length l) wher
       ap (λ (m : List ℕ). length (trim m)) last
       ∙ ap length (trim-other (take (n - 1) l) (getD l (n - 1) 0) (ne-eqb (getD l (n - 1) 0) blank e) ∙ sym last)
       ∙ length-take-le n l in-line
-
--- so many bytes are the line without its trailing blanks
-pub trim-take : (l : List ℕ) → take (length (trim l)) l ≡ trim l
-trim-take l =
-    let t : Trimmed l (trim l) = trimmed .sound l (trim l) refl in
-    ap (take (length (trim l))) (t .text) ∙ take-append-seam (trim l) (replicate (t .blanks) blank)

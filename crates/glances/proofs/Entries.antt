@@ -1,5 +1,5 @@
 -- What the tests of one entry say of 12, 13 and 14: over plain values, as the code has them. Assumes nothing.
-use mathlib.Core.Path.{_≡_, refl, sym, ap, _∙_}
+use mathlib.Core.Path.{_≡_, refl, sym, _∙_}
 use mathlib.Core.Bool.{Bool, true, _&&_, or-true}
 use mathlib.Core.List.{List}
 use Prim.Native.Nat.{ℕ, _<_}
@@ -8,12 +8,10 @@ use native.Mathlib.Decide.{ℕ-discrete}
 use native.Mathlib.Omega.{arith}
 use borrow.Author.Tests.{eq-eqb, ne-eqb, eqb-true}
 use lib.Dec.{eqb}
-use lib.ListN.{length, getD, set, replicate, length-set, getD-replicate}
+use lib.ListN.{getD, set, replicate, length-set, getD-replicate}
 use lib.Seq.{getD-set-same, getD-set-other}
-use Rattle.kit.specs.Lists.{among}
 use Rattle.kit.proofs.Bools.{and}
 use Rattle.types.specs.declared.Place.{Place}
-use Rattle.law.specs.Players.{gameResults}
 use Rattle.law.specs.Entries.{isBye, fits, bye-or-game}
 use Rattle.law.specs.Tables.{cellOf}
 use Rattle.join.specs.Store.{placeOf}

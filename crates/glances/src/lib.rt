@@ -23,28 +23,29 @@ use types::StartNumber;
 // A cell for each byte.
 const BYTES: usize = 256;
 
-// The result that stands opposite each result of a game, at its byte; 0 at every other. Opposite `-` there may be `-` too. Made once for all entries.
-fn answers() -> [u8; BYTES]
+// The result that stands opposite each result of a game, at its byte; 0 at every other. Opposite `-` there may be `-` too. Made once for all entries. Promised:
+// what is not 0 fits; a table of zeros would make every look a no.
+fn answer_table() -> [u8; BYTES]
     ensures { λ r. ⌜ Answers r ⌝ }
 {
-    let mut opposite = [0u8; BYTES];
-    opposite[b'1' as usize] = b'0';
-    opposite[b'0' as usize] = b'1';
-    opposite[b'=' as usize] = b'=';
-    opposite[b'W' as usize] = b'L';
-    opposite[b'L' as usize] = b'W';
-    opposite[b'D' as usize] = b'D';
-    opposite[b'+' as usize] = b'-';
-    opposite[b'-' as usize] = b'+';
-    opposite
+    let mut answers = [0u8; BYTES];
+    answers[b'1' as usize] = b'0';
+    answers[b'0' as usize] = b'1';
+    answers[b'=' as usize] = b'=';
+    answers[b'W' as usize] = b'L';
+    answers[b'L' as usize] = b'W';
+    answers[b'D' as usize] = b'D';
+    answers[b'+' as usize] = b'-';
+    answers[b'-' as usize] = b'+';
+    answers
 }
 
 // Whether two results are those of one game.
-fn are_one_game(result: u8, theirs: u8, opposite: &[u8; BYTES]) -> bool
-    requires { ⌜ Answers (now opposite) ⌝ }
+fn are_one_game(result: u8, theirs: u8, answers: &[u8; BYTES]) -> bool
+    requires { ⌜ Answers (now answers) ⌝ }
     ensures { λ r. ⌜ (r ≡ true → Fits result theirs) ⌝ }
 {
-    let answer = opposite[result as usize];
+    let answer = answers[result as usize];
     if answer == 0 {
         return false;
     }
@@ -74,10 +75,10 @@ fn keeps_entry(
     colours: &[u8],
     results: &[u8],
     index: &[u8; START_CELLS],
-    opposite: &[u8; BYTES],
+    answers: &[u8; BYTES],
 ) -> bool
     requires { ⌜ (place .0 < mostPlayers) × (1 ≤ round) × (round ≤ mostRounds) ⌝ }
-    requires { ⌜ (entryCells ≤ length (now opponents)) × (entryCells ≤ length (now colours)) × (entryCells ≤ length (now results)) × IsIndex (now index) × Answers (now opposite) ⌝ }
+    requires { ⌜ (entryCells ≤ length (now opponents)) × (entryCells ≤ length (now colours)) × (entryCells ≤ length (now results)) × IsIndex (now index) × Answers (now answers) ⌝ }
     ensures { λ r. ⌜ (r ≡ true → (starts : List ℕ) (n : ℕ) → getD starts (place .0) 0 ≡ start .0 → Indexed starts n (now (index .entry)) → KeepsEntry n (four starts (now (opponents .entry)) (now (colours .entry)) (now (results .entry))) (place .0) round) ⌝ }
 {
     let i = tables::cell_of(place, round);
@@ -98,7 +99,7 @@ fn keeps_entry(
     if !are_opposite(colour, colours[j]) {
         return false;
     }
-    are_one_game(result, results[j], opposite)
+    are_one_game(result, results[j], answers)
 }
 
 // Whether a player's entries do, up to a round.
@@ -109,11 +110,11 @@ fn keeps_row(
     colours: &[u8],
     results: &[u8],
     index: &[u8; START_CELLS],
-    opposite: &[u8; BYTES],
+    answers: &[u8; BYTES],
     rounds: u32,
 ) -> bool
     requires { ⌜ (place .0 < mostPlayers) × (rounds ≤ mostRounds) ⌝ }
-    requires { ⌜ Long (now starts) (now opponents) (now colours) (now results) × IsIndex (now index) × Answers (now opposite) ⌝ }
+    requires { ⌜ Long (now starts) (now opponents) (now colours) (now results) × IsIndex (now index) × Answers (now answers) ⌝ }
     ensures { λ r. ⌜ (r ≡ true → (n : ℕ) → Indexed (now (starts .entry)) n (now (index .entry)) → KeepsRow n (four (now (starts .entry)) (now (opponents .entry)) (now (colours .entry)) (now (results .entry))) (place .0) rounds) ⌝ }
 {
     let own = tables::own_cell(place);
@@ -128,7 +129,7 @@ fn keeps_row(
             colours,
             results,
             index,
-            opposite,
+            answers,
         ) {
             return false;
         }
@@ -144,11 +145,11 @@ fn keeps_rows(
     colours: &[u8],
     results: &[u8],
     index: &[u8; START_CELLS],
-    opposite: &[u8; BYTES],
+    answers: &[u8; BYTES],
     n: usize,
     rounds: u32,
 ) -> bool
-    requires { ⌜ (rounds ≤ mostRounds) × Answers (now opposite) ⌝ }
+    requires { ⌜ (rounds ≤ mostRounds) × Answers (now answers) ⌝ }
     requires { ⌜ Long (now starts) (now opponents) (now colours) (now results) × Indexed (now starts) n (now index) ⌝ }
     ensures { λ r. ⌜ (r ≡ true → KeepsRows n (four (now (starts .entry)) (now (opponents .entry)) (now (colours .entry)) (now (results .entry))) n rounds) ⌝ }
 {
@@ -162,7 +163,7 @@ fn keeps_rows(
             colours,
             results,
             index,
-            opposite,
+            answers,
             rounds,
         ) {
             return false;
@@ -252,14 +253,14 @@ pub fn all_lawful(
     if MOST_ROUNDS < rounds as usize {
         return false;
     }
-    let opposite = answers();
+    let answers = answer_table();
     if !keeps_rows(
         starts,
         opponents,
         colours,
         results,
         index,
-        &opposite,
+        &answers,
         n,
         rounds,
     ) {

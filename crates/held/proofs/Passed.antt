@@ -1,14 +1,14 @@
 -- Tests put together, and a test asked of each number of a run: how it begins, one turn, how it ends. Assumes nothing.
 use mathlib.Core.Path.{_≡_, refl, sym, ap, _∙_, subst}
-use mathlib.Core.Bool.{Bool, true, false, _&&_, _||_}
+use mathlib.Core.Bool.{Bool, true, _&&_}
 use Prim.Native.Nat.{ℕ, _+_, _≤_, _<_}
 use native.Mathlib.Decide.{ℕ-discrete}
 use native.Mathlib.Omega.{arith}
-use lib.Dec.{eqb, leb, ltb}
-use borrow.Author.Tests.{eqb-true, eq-eqb, leb-true, le-leb, ltb-true, lt-ltb}
+use lib.Dec.{eqb, leb}
+use borrow.Author.Tests.{eqb-true, eq-eqb, leb-true, le-leb}
 use Rattle.kit.specs.Lists.{between}
 use Rattle.kit.specs.Decides.{Tests}
-use Rattle.kit.proofs.Bools.{clash, and, both, within, in-between}
+use Rattle.kit.proofs.Bools.{and, both, within, in-between}
 use Rattle.types.specs.declared.Acceleration.{Acceleration}
 use Rattle.law.specs.Lawful.{noAcceleration}
 use Rattle.texts.specs.Kept.{Told}
@@ -30,20 +30,9 @@ told-eq a b = record { sound = eqb-true a b; complete = eq-eqb a b }
 pub told-le : (a b : ℕ) → Told (a ≤ b) (leb a b)
 told-le a b = record { sound = leb-true a b; complete = le-leb a b }
 
-pub told-lt : (a b : ℕ) → Told (a < b) (ltb a b)
-told-lt a b = record { sound = ltb-true a b; complete = lt-ltb a b }
-
 pub told-both : {P Q : Type 0} {a b : Bool} → Told P a → Told Q b → Told (P × Q) (a && b)
 told-both {a = a} {b = b} t s =
     record { sound = λ e. let k = and a b e in (t .sound (k .0), s .sound (k .1)); complete = λ h. both (t .complete (h .0)) (s .complete (h .1)) }
-
--- Q where P is not so
-pub told-unless : {P Q : Type 0} {a b : Bool} → Told P a → Told Q b → Told ((P → ⊥) → Q) (a || b)
-told-unless {P} {Q} {a} {b} t s = go a (t .sound) (t .complete)
-  where
-    go : (v : Bool) → (v ≡ true → P) → (P → v ≡ true) → Told ((P → ⊥) → Q) (v || b)
-    go true f g = record { sound = λ _ n. absurd (n (f refl)); complete = λ _. refl }
-    go false f g = record { sound = λ e _. s .sound e; complete = λ h. s .complete (h (λ p. clash (g p))) }
 
 -- ---- good: each number of a run, from one up to another, has passed as far as i
 pub record Passed (P : ℕ → Type 0) (from to : ℕ) (good : Bool) (i : ℕ) : Type 0 where

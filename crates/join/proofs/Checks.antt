@@ -1,29 +1,25 @@
 -- The checks over cells are the statement's faults of the file, in its order. Assumes nothing.
-use mathlib.Core.Path.{_≡_, refl, sym, ap, ap₂, _∙_, subst}
-use mathlib.Core.Bool.{Bool, true, false, cond, _&&_, _||_, not}
+use mathlib.Core.Path.{_≡_, refl, sym, ap, ap₂, _∙_}
+use mathlib.Core.Bool.{Bool, _&&_, not}
 use mathlib.Core.Option.{Option, none, some}
-use mathlib.Core.List.{List, [], _∷_, _++_, map}
-use Prim.Native.Nat.{ℕ, zero, suc, _+_, _*_, _-_, _/_, _%_, _≤_, _<_}
+use mathlib.Core.List.{List, map}
+use Prim.Native.Nat.{ℕ, _+_, _-_, _≤_, _<_}
 use Prim.Native.Char.{code}
 use native.Mathlib.Omega.{arith}
-use lib.Dec.{eqb, leb, ltb}
-use lib.ListN.{length, getD, take, length-map, List·getD-map}
-use lib.Seq.{length-take-le}
-use Rattle.kit.specs.Lists.{any, among, first, flat, sumOf, from}
-use Rattle.kit.specs.First.{AllOf}
-use Rattle.kit.specs.Decides.{to, isSome, orElse}
+use lib.Dec.{eqb}
+use lib.ListN.{length, getD, List·getD-map}
+use Rattle.kit.specs.Lists.{any, first}
+use Rattle.kit.specs.Decides.{to, isSome}
 use Rattle.kit.specs.Table.{Holds}
-use Rattle.kit.proofs.Firsts.{all-of-at}
 use Rattle.types.specs.declared.Acceleration.{Acceleration}
 use Rattle.law.specs.Sizes.{mostPlayers, mostRounds, mostAccelerations}
 use Rattle.law.specs.Accelerations.{shares}
 use Rattle.law.specs.Scoring.{Scoring, values}
-use Rattle.law.specs.Players.{PlayerLine, gameColours, gameResults}
 use Rattle.law.specs.Tournament.{Entry, Player, Tournament}
-use Rattle.law.specs.Entries.{noEntry, noPlayer, playerAt, entryOf, isBye, isAnother, isGame, opponent, asked, answers, fits, hasU, Law, bye-or-game, mutual-pairing, fitting-results, one-U, keeps, worth, earned, statesSum}
+use Rattle.law.specs.Entries.{noEntry, noPlayer, playerAt, entryOf, isGame, asked, answers, fits, hasU, Law, bye-or-game, mutual-pairing, fitting-results, one-U, keeps, worth, earned, statesSum}
 use Rattle.law.specs.Lawful.{noAcceleration, sharesEarlier}
-use Rattle.law.specs.Tables.{cellsOf, entryCells, cellOf, placeIn, roundIn, entryCellsOf}
-use Rattle.join.specs.Grid.{firstFrom, sumFrom, someBelow}
+use Rattle.law.specs.Tables.{cellsOf, entryCells, cellOf, entryCellsOf}
+use Rattle.join.specs.Grid.{sumFrom}
 use Rattle.join.specs.Store.{Nine, placeOf}
 use Rattle.join.specs.Check.{entryCell, askedAt, isGameBy, answersBy, hasUAt, keepsCell, sharedRecord, worthBy, sumAt, wrongSum}
 use Rattle.join.proofs.Cells.{grid-at}

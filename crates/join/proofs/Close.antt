@@ -1,34 +1,32 @@
 -- The closing pass: raw cells become the entries of the tournament, and the number of rounds is found from them. Assumes nothing.
 use mathlib.Core.Path.{_≡_, refl, sym, ap, _∙_, subst}
-use mathlib.Core.Bool.{Bool, true, false, cond, _&&_, _||_, not}
-use mathlib.Core.List.{List, [], _∷_, _++_, map}
-use Prim.Native.Nat.{ℕ, zero, suc, _+_, _*_, _-_, _/_, _%_, _≤_, _<_}
+use mathlib.Core.Bool.{Bool, true, false, cond, _&&_, not}
+use mathlib.Core.List.{List, [], _∷_, map}
+use Prim.Native.Nat.{ℕ, zero, suc, _+_, _*_, _-_, _≤_, _<_}
 use Prim.Native.Char.{code}
 use native.Mathlib.Decide.{decLt, decLe, ℕ-discrete}
 use native.Mathlib.Omega.{arith}
-use borrow.Author.Tests.{lt-ltb, le-ltb, le-leb, lt-leb, eq-eqb, ne-eqb, eqb-true}
+use borrow.Author.Tests.{lt-ltb, le-ltb, le-leb, lt-leb, eq-eqb, ne-eqb}
 use lib.Dec.{eqb, leb, ltb}
 use lib.ListN.{length, getD, take, length-map, length-take, List·getD-map, List·getD-eq-default}
 use lib.Seq.{getD-take, length-take-le}
-use Rattle.kit.specs.Lists.{all, any, among, flat, from, top, Each}
+use Rattle.kit.specs.Lists.{any}
 use Rattle.kit.specs.First.{AllOf}
 use Rattle.kit.specs.Table.{Holds}
-use Rattle.kit.proofs.Bools.{clash, among-all}
-use Rattle.kit.proofs.Firsts.{all-of-at, all-of-each}
+use Rattle.kit.proofs.Firsts.{all-of-at}
 use Rattle.law.specs.Sizes.{mostPlayers, mostRounds}
-use Rattle.law.specs.Lines.{Line}
-use Rattle.law.specs.Columns.{blank, isBlank, col, part, rowOf}
-use Rattle.law.specs.Players.{Slot, SpellsSlot, PlayerLine, slotColours, slotResults, capital, idField, entryColourColumn, resultColumn, roundFields, everyRound}
-use Rattle.law.specs.Items.{Item, passed, text, rounds, colour, scoring, acceleration, player}
-use Rattle.law.specs.Tournament.{Entry, Player, Tournament, blankAs, normal, noSlot, slotAt, usedRounds, playerIn, playerOf}
-use Rattle.law.specs.Entries.{noEntry, noPlayer, playerAt, entryOf}
-use Rattle.law.specs.Spelling.{SpellsLine, noLine}
-use Rattle.law.specs.Tables.{entryCells, cellOf, placeIn, roundIn, entryCellsOf}
-use Rattle.join.specs.Grid.{entryIn, mostFrom}
+use Rattle.law.specs.Columns.{blank, isBlank, part}
+use Rattle.law.specs.Players.{Slot, PlayerLine}
+use Rattle.law.specs.Items.{colour}
+use Rattle.law.specs.Tournament.{Entry, Player, blankAs, normal, noSlot, slotAt, usedRounds, playerOf}
+use Rattle.law.specs.Entries.{noEntry, noPlayer, entryOf}
+use Rattle.law.specs.Spelling.{noLine}
+use Rattle.law.specs.Tables.{entryCells, placeIn, roundIn}
+use Rattle.join.specs.Grid.{entryIn}
 use Rattle.join.specs.Store.{rawCell, rawCells}
 use Rattle.join.specs.Kept.{rawGrid}
 use Rattle.join.specs.Check.{placeAt, roundAt, isSeen, roundSeen, roundsSeen, closing}
-use Rattle.join.proofs.Cells.{holds-as, holds-then, grid-at}
+use Rattle.join.proofs.Cells.{grid-at}
 use Rattle.join.proofs.Firsts.{any-at, any-of, top-most}
 use Rattle.join.proofs.Keeps.{by-player}
 

@@ -1,5 +1,5 @@
 -- The sixteen text codes: the place of each, and which of them stood. Assumes nothing.
-use mathlib.Core.Path.{_≡_, refl, sym, ap, ap₂, _∙_, subst}
+use mathlib.Core.Path.{_≡_, refl, sym, ap, ap₂, _∙_}
 use mathlib.Core.Bool.{Bool, true, false, cond, _&&_, _||_, not}
 use mathlib.Core.List.{List, [], _∷_, _++_, map}
 use Prim.Native.Nat.{ℕ, zero, suc, _+_, _-_, _≤_, _<_}
@@ -10,7 +10,7 @@ use lib.ListN.{length, getD, set}
 use Rattle.kit.specs.Lists.{all, any, same, isOneOf}
 use Rattle.kit.proofs.Bools.{clash, and, same-is, one-of-texts, any-append}
 use Rattle.law.specs.Columns.{part, codeField}
-use Rattle.law.specs.Text.{textCodes, repeatedCode, nameCode, isName, isRepeated}
+use Rattle.law.specs.Text.{textCodes, repeatedCode, isName, isRepeated}
 use Rattle.join.specs.Store.{codePlace}
 
 -- which codes stand among some lines

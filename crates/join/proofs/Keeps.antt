@@ -1,13 +1,12 @@
 -- A line stored: the state after it holds what the state before it held, and its item. Assumes nothing.
-use mathlib.Core.Path.{_≡_, refl, sym, ap, ap₂, _∙_, subst}
-use mathlib.Core.Bool.{Bool, true, false, cond, _&&_, _||_, not}
-use mathlib.Core.Option.{Option, none, some}
+use mathlib.Core.Path.{_≡_, refl, sym, ap, _∙_, subst}
+use mathlib.Core.Bool.{Bool}
 use mathlib.Core.List.{List, [], _∷_, _++_, map, append-assoc, append-nil}
-use Prim.Native.Nat.{ℕ, zero, suc, _+_, _*_, _-_, _/_, _%_, _≤_, _<_}
+use Prim.Native.Nat.{ℕ, suc, _+_, _*_, _-_, _≤_, _<_}
 use native.Mathlib.Omega.{arith}
-use lib.ListN.{length, getD, set, replicate, length-map, length-append, length-replicate}
+use lib.ListN.{length, set, length-map}
 use lib.Seq.{paste}
-use Rattle.kit.specs.Lists.{same, isEmpty, flat, onlyOr}
+use Rattle.kit.specs.Lists.{same, flat}
 use Rattle.kit.specs.First.{AllOf}
 use Rattle.kit.specs.Table.{Holds}
 use Rattle.kit.proofs.Firsts.{all-of-each}
@@ -19,19 +18,16 @@ use Rattle.law.specs.Columns.{rowOf, part, width, codeField}
 use Rattle.law.specs.Text.{ended}
 use Rattle.law.specs.Accelerations.{accelerationCode}
 use Rattle.law.specs.Players.{PlayerLine, playerCode, keptField}
-use Rattle.law.specs.Scoring.{values, scoringOf}
-use Rattle.law.specs.Items.{Item, passed, text, rounds, colour, scoring, acceleration, player}
-use Rattle.law.specs.Tournament.{Entry, textIn, roundsIn, colourIn, scoringIn, accelerationIn, playerIn}
+use Rattle.law.specs.Items.{Item, text, colour, acceleration, player}
+use Rattle.law.specs.Tournament.{Entry, textIn, playerIn}
 use Rattle.law.specs.Entries.{noEntry}
-use Rattle.law.specs.Lawful.{noAcceleration}
 use Rattle.law.specs.Tables.{cellsOf, keptCells, entryCells, lineCells, cellOf, placeIn, roundIn, linesContent}
 use Rattle.law.specs.Refusals.{onlyIf, linesOf}
 use Rattle.law.proofs.LinesLawful.{LawfulLine}
 use Rattle.join.specs.Grid.{Order, putRow, entryIn}
-use Rattle.join.specs.Store.{Nine, Count, rawCells, storePlayer, storeText, storeLine, countPlayer, countText, countRounds, countColour, countScoring, countAcceleration, codePlace}
-use Rattle.join.specs.Kept.{rawGrid, RawHold, Counted, Long}
+use Rattle.join.specs.Store.{Nine, rawCells, storePlayer, storeText, storeLine}
+use Rattle.join.specs.Kept.{rawGrid, RawHold, Long}
 use Rattle.join.proofs.Cells.{holds-snoc, holds-append, first-grows, second-grows, grid-snoc}
-use Rattle.join.proofs.Codes.{seenOf}
 
 pub by-player : Order entryCells mostPlayers mostRounds cellOf placeIn roundIn
 by-player =

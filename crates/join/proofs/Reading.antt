@@ -1,19 +1,18 @@
 -- From the run over the lines and the verdict to the statement's outcome: what the code has to compute, and nothing more. Assumes nothing.
-use mathlib.Core.Path.{_≡_, refl, sym, ap, ap₂, _∙_, subst}
-use mathlib.Core.Bool.{Bool, true, false, cond, not}
+use mathlib.Core.Path.{_≡_, refl, sym, ap, _∙_, subst}
+use mathlib.Core.Bool.{Bool, true, false, cond}
 use mathlib.Core.Option.{Option, none, some}
-use mathlib.Core.List.{List, [], _∷_, _++_, map}
-use Prim.Native.Nat.{ℕ, zero, suc, _+_, _-_, _≤_, _<_}
+use mathlib.Core.List.{List, []}
+use Prim.Native.Nat.{ℕ, zero, suc, _-_, _≤_}
 use native.Mathlib.Omega.{arith}
 use borrow.Author.Tests.{le-ltb}
 use lib.Dec.{ltb}
 use lib.ListN.{length, getD, replicate, List·getD-eq-default}
-use Rattle.kit.specs.Lists.{first, flat, Each}
-use Rattle.kit.specs.Decides.{Decides, to, orElse}
-use Rattle.kit.specs.Table.{Holds}
+use Rattle.kit.specs.Lists.{first, flat}
+use Rattle.kit.specs.Decides.{to, orElse}
 use Rattle.kit.proofs.Decided.{no-some}
 use Rattle.kit.proofs.Firsts.{first-append}
-use Rattle.law.specs.Sizes.{mostFile, mostPlayers, mostAccelerations, mostText}
+use Rattle.law.specs.Sizes.{mostFile, mostPlayers, mostAccelerations}
 use Rattle.law.specs.Lines.{Line}
 use Rattle.law.specs.Accelerations.{accelerationCode}
 use Rattle.law.specs.Players.{playerCode}
@@ -21,22 +20,20 @@ use Rattle.law.specs.Items.{Item}
 use Rattle.law.specs.Tournament.{Entry, tournamentOf}
 use Rattle.law.specs.Entries.{noEntry}
 use Rattle.law.specs.Lawful.{noAcceleration}
-use Rattle.law.specs.Tables.{keptCells, entryCells, lineCells, placeIn, roundIn}
-use Rattle.law.specs.Refusals.{linesOf, playerSeats, accelerationSeats, fileFaults, Label, refusal, Refusal, refusalOf, lineLabels, labelsOf, labels, Outcome, refused, accepted, Judged}
+use Rattle.law.specs.Tables.{placeIn, roundIn}
+use Rattle.law.specs.Refusals.{linesOf, playerSeats, accelerationSeats, fileFaults, Label, refusal, Refusal, refusalOf, lineLabels, labelsOf, labels, refused, accepted, Judged}
 use Rattle.law.proofs.Cut.{cut}
 use Rattle.law.proofs.Faults.{lineItems, lines-spelled, testLabel}
-use Rattle.law.proofs.LinesRead.{LinesGood}
 use Rattle.law.proofs.Judges.{outcomeOf, outcomeBy, acceptedAs, judged}
-use Rattle.join.specs.Run.{Way, on, stop, runAll, firstAll, Match}
-use Rattle.join.specs.Store.{Nine, Count, State, state, noCount, stepLine}
-use Rattle.join.specs.Kept.{RawHold, CountedBy, Counted, Long, Zeroed}
+use Rattle.join.specs.Run.{on, stop, runAll, firstAll, Match}
+use Rattle.join.specs.Store.{Nine, State, state, noCount, stepLine}
+use Rattle.join.specs.Kept.{Long, Zeroed}
 use Rattle.join.specs.Check.{roundsFound, verdict, Closes}
 use Rattle.join.proofs.Cells.{holds-as}
 use Rattle.join.proofs.Runs.{runs}
-use Rattle.join.proofs.Codes.{seenOf}
 use Rattle.join.proofs.Steps.{After, faultOf, agrees}
 use Rattle.join.proofs.Whole.{atLine, line-firsts, to-orElse}
-use Rattle.join.proofs.Verdict.{Held, verdict-is, no-verdict}
+use Rattle.join.proofs.Verdict.{verdict-is}
 
 -- ---- cleared tables
 nothing-at : (i : ℕ) → _≡_ {A = ℕ} 0 (getD [] i 0)

@@ -1,9 +1,8 @@
 -- A run that agrees with the faults line by line agrees with the first fault of the file. Assumes nothing.
-use mathlib.Core.Path.{_≡_, refl, sym, ap, _∙_, subst}
+use mathlib.Core.Path.{_≡_, ap}
 use mathlib.Core.Option.{Option, none, some}
 use mathlib.Core.List.{List, [], _∷_, _++_, append-nil}
-use Prim.Native.Nat.{ℕ, suc, _+_}
-use native.Mathlib.Omega.{arith}
+use Prim.Native.Nat.{_+_}
 use lib.ListN.{length, length-append}
 use lib.Seq.{append-snoc}
 use Rattle.kit.specs.Decides.{orElse, to}

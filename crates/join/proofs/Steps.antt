@@ -1,41 +1,41 @@
 -- Line by line: what a line does to the state and the statement's first fault of that line agree. Assumes nothing.
 use mathlib.Core.Path.{_≡_, refl, sym, ap, ap₂, _∙_, subst}
-use mathlib.Core.Bool.{Bool, true, false, cond, _&&_, _||_, not}
+use mathlib.Core.Bool.{Bool, true, false, cond, _&&_, not}
 use mathlib.Core.Option.{Option, none, some}
-use mathlib.Core.List.{List, [], _∷_, _++_, map, append-nil}
-use Prim.Native.Nat.{ℕ, zero, suc, _+_, _-_, _≤_, _<_}
+use mathlib.Core.List.{List, [], _∷_, _++_, append-nil}
+use Prim.Native.Nat.{ℕ, _+_, _-_}
 use native.Mathlib.Omega.{arith}
-use lib.Dec.{eqb, leb, ltb}
+use lib.Dec.{eqb, ltb}
 use lib.ListN.{length, getD, set, replicate, length-append, length-replicate, List·getD-map}
 use lib.Seq.{append-snoc}
-use borrow.Author.Tests.{ltb-false, not-true, le-leb, eqb-true, ne-eqb}
-use Rattle.kit.specs.Lists.{all, any, among, same, isOneOf, isEmpty, eachAfter, onlyOr, flat, first, Each}
+use borrow.Author.Tests.{ltb-false, le-leb}
+use Rattle.kit.specs.Lists.{all, any, among, same, isOneOf, isEmpty, eachAfter, onlyOr, flat, first}
 use Rattle.kit.specs.First.{AllOf}
-use Rattle.kit.specs.Decides.{Decides, to, isSome, orElse}
+use Rattle.kit.specs.Decides.{to, isSome}
 use Rattle.kit.specs.Table.{Holds}
 use Rattle.kit.proofs.Bools.{clash, and, both, among-all, all-append}
 use Rattle.kit.proofs.Lists.{flat-snoc}
 use Rattle.types.specs.declared.Acceleration.{Acceleration}
 use Rattle.law.specs.Sizes.{mostLine, mostPlayers, mostAccelerations, mostText}
 use Rattle.law.specs.Lines.{allowed, Line, isEnded}
-use Rattle.law.specs.Columns.{blank, rowOf, part, codeField}
-use Rattle.law.specs.Text.{textCodes, ended, isRepeated, SpellsText}
+use Rattle.law.specs.Columns.{rowOf, part, codeField}
+use Rattle.law.specs.Text.{textCodes, ended, SpellsText}
 use Rattle.law.specs.Heads.{initialColours, roundsCode, colourCode}
 use Rattle.law.specs.Scoring.{values, scoringOf, scoringCode}
 use Rattle.law.specs.Accelerations.{accelerationCode}
 use Rattle.law.specs.Players.{PlayerLine, playerCode}
-use Rattle.law.specs.Items.{Item, passed, text, rounds, colour, scoring, acceleration, player, Kind, passed-over, kept-text, 142-record, 152-record, 162-record, 250-record, 001-record, unlisted, isPassed, kindOf, SpellsItem}
+use Rattle.law.specs.Items.{Item, passed, text, rounds, colour, scoring, acceleration, player, Kind, passed-over, kept-text, 142-record, 152-record, 162-record, 250-record, 001-record, unlisted, isPassed, kindOf}
 use Rattle.law.specs.Lawful.{noAcceleration}
 use Rattle.law.specs.Tournament.{textIn, roundsIn, colourIn, scoringIn, accelerationIn, playerIn}
 use Rattle.law.specs.Spelling.{isSound, SpellsLine, noLine}
-use Rattle.law.specs.Refusals.{LineFault, bad-byte, no-CR, too-long, not-listed, bad-field, again, too-many, lineFaults, isAgain, isTooMany, onlyIf, linesOf, lineFaultNumber}
+use Rattle.law.specs.Refusals.{bad-byte, no-CR, too-long, not-listed, bad-field, again, too-many, lineFaults, isAgain, isTooMany, onlyIf, linesOf, lineFaultNumber}
 use Rattle.law.proofs.RecordsRead.{textOf, roundsOfRow, colourOf, givenOf, accelerationOf, playerOf, text-line, rounds-line, colour-line, scoring-line, acceleration-line, player-line, itemAs, itemOf}
 use Rattle.law.proofs.ColumnLaws.{cells-blanks}
-use Rattle.law.proofs.Faults.{lineItem, lineItems, line, lines-spelled, isUnlisted, testAfter, testLine}
+use Rattle.law.proofs.Faults.{lineItems, line, lines-spelled, isUnlisted, testAfter, testLine}
 use Rattle.law.proofs.LinesRead.{isNew, isFew, LinesGood, each-snoc}
-use Rattle.law.proofs.LinesLawful.{LawfulLine, Fine, fine, colours-fine, players-fine}
+use Rattle.law.proofs.LinesLawful.{fine, colours-fine, players-fine}
 use Rattle.law.proofs.LawfulTested.{isText}
-use Rattle.law.proofs.NewAndFew.{AllFit, few-fits}
+use Rattle.law.proofs.NewAndFew.{few-fits}
 use Rattle.law.proofs.Seats.{player-lines, acceleration-lines, is001, is250, player-code-is, acceleration-code-is}
 use Rattle.join.specs.Run.{Way, on, stop, Match}
 use Rattle.join.specs.Store.{Nine, Count, State, state, storePlayer, storeText, storeLine, countPlayer, countText, countRounds, countColour, countScoring, countAcceleration, codePlace, placeOf, refuseOr, stepText, stepRounds, stepColour, stepScoring, stepAcceleration, stepPlayer, stepRow, stepLine}

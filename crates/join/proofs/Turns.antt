@@ -1,7 +1,7 @@
 -- Labels player by player and round by round, listed by turn. Assumes nothing.
 use mathlib.Core.Path.{_≡_, refl, sym, ap, ap₂, _∙_}
 use mathlib.Core.List.{List, [], _∷_, _++_, map}
-use Prim.Native.Nat.{ℕ, zero, suc, _+_, _*_, _-_, _/_, _%_, _≤_, _<_}
+use Prim.Native.Nat.{ℕ, zero, suc, _+_, _*_, _-_, _≤_, _<_}
 use native.Mathlib.Nat.{zero-add}
 use native.Mathlib.Omega.{arith}
 use lib.ListN.{length, getD}
@@ -9,7 +9,7 @@ use Rattle.kit.specs.Lists.{from, flat}
 use Rattle.kit.proofs.Lists.{map-append}
 use Rattle.law.specs.Sizes.{mostRounds}
 use Rattle.law.specs.Players.{everyRound}
-use Rattle.law.specs.Refusals.{Seat, seatsFrom, FileFault, Label, of-file, eachRound, eachSeat}
+use Rattle.law.specs.Refusals.{Seat, seatsFrom, FileFault, of-file, eachRound, eachSeat}
 use Rattle.law.proofs.Seats.{seat}
 use Rattle.join.specs.Check.{placeAt, roundAt}
 

@@ -1,47 +1,42 @@
 -- After the last line: the number of rounds, the verdict of the checks and the tables, from counts and cells, are the statement's. Assumes nothing.
 use mathlib.Core.Path.{_≡_, refl, sym, ap, ap₂, _∙_, subst}
-use mathlib.Core.Bool.{Bool, true, false, cond, _&&_, _||_, not}
+use mathlib.Core.Bool.{Bool, true, false, cond, _&&_, not}
 use mathlib.Core.Option.{Option, none, some}
 use mathlib.Core.List.{List, [], _∷_, _++_, map}
-use Prim.Native.Nat.{ℕ, zero, suc, _+_, _*_, _-_, _/_, _%_, _≤_, _<_}
-use Prim.Native.Char.{code}
+use Prim.Native.Nat.{ℕ, suc, _+_, _*_, _-_, _≤_, _<_}
 use native.Mathlib.Omega.{arith}
 use borrow.Author.Tests.{lt-ltb, le-ltb}
-use lib.Dec.{eqb, leb, ltb}
+use lib.Dec.{leb, ltb}
 use lib.ListN.{length, getD, take, length-map}
 use lib.Seq.{length-take-le}
-use Rattle.kit.specs.Lists.{any, isEmpty, onlyOr, first, flat, from, Each}
+use Rattle.kit.specs.Lists.{any, isEmpty, onlyOr, first, flat, from}
 use Rattle.kit.specs.First.{AllOf}
 use Rattle.kit.specs.Decides.{to, orElse}
 use Rattle.kit.specs.Table.{Holds}
-use Rattle.kit.proofs.Bools.{clash}
 use Rattle.kit.proofs.Decided.{no-some}
 use Rattle.kit.proofs.Firsts.{all-of-at, first-append}
-use Rattle.types.specs.declared.Acceleration.{Acceleration}
 use Rattle.law.specs.Sizes.{mostPlayers, mostRounds, mostAccelerations, mostText}
 use Rattle.law.specs.Lines.{Line}
 use Rattle.law.specs.Text.{isName, ended}
-use Rattle.law.specs.Scoring.{values, scoringOf}
+use Rattle.law.specs.Scoring.{values}
 use Rattle.law.specs.Accelerations.{accelerationCode}
 use Rattle.law.specs.Players.{PlayerLine, playerCode, Slot}
 use Rattle.law.specs.Items.{Item}
-use Rattle.law.specs.Tournament.{Entry, Player, Tournament, textIn, roundsIn, accelerationIn, playerIn, normal, slotAt, usedRounds, roundsOf, playerOf, tournamentOf}
-use Rattle.law.specs.Entries.{noEntry, noPlayer, playerAt, Law, bye-or-game, mutual-pairing, fitting-results, one-U, keeps, statesSum}
-use Rattle.law.specs.Lawful.{noAcceleration, sharesEarlier}
+use Rattle.law.specs.Tournament.{Entry, Player, Tournament, textIn, roundsIn, accelerationIn, playerIn, normal, usedRounds, roundsOf, playerOf, tournamentOf}
+use Rattle.law.specs.Entries.{noEntry, noPlayer, playerAt, Law, bye-or-game, mutual-pairing, fitting-results, one-U}
 use Rattle.law.specs.Spelling.{noLine, isPast}
 use Rattle.law.specs.Tables.{keptCells, entryCells, lineCells, cellsOf, linesContent, entryCellsOf}
-use Rattle.law.specs.Refusals.{linesOf, playerSeats, accelerationSeats, seatsFrom, FileFault, incomplete, past-142, shared, unlawful, wrong-sum, fileFaults, isComplete, isFileFault, Label, of-file, fileFaultNumber, Refusal, refusal, refusalOf, eachRound, eachSeat, labelsOf, nowhere}
+use Rattle.law.specs.Refusals.{linesOf, playerSeats, accelerationSeats, seatsFrom, FileFault, incomplete, past-142, shared, unlawful, wrong-sum, fileFaults, isFileFault, Label, of-file, fileFaultNumber, Refusal, refusal, refusalOf, eachRound, eachSeat, labelsOf, nowhere}
 use Rattle.law.proofs.Faults.{testLabel}
 use Rattle.law.proofs.LinesLawful.{rounds-small}
 use Rattle.law.proofs.NewAndFew.{few-fits}
 use Rattle.law.proofs.Seats.{player-lines, acceleration-lines, seat}
 use Rattle.join.specs.Grid.{firstFrom}
 use Rattle.join.specs.Store.{Nine, Count, State}
-use Rattle.join.specs.Kept.{rawGrid, RawHold, CountedBy, Counted}
-use Rattle.join.specs.Check.{placeAt, roundAt, isSeen, roundsFound, roundsSeen, pastCell, sharedRecord, closing, keepsCell, brokenCell, wrongSum, atPlayer, brokenBy, verdict, Closes}
+use Rattle.join.specs.Kept.{rawGrid}
+use Rattle.join.specs.Check.{placeAt, roundAt, roundsFound, roundsSeen, pastCell, sharedRecord, closing, keepsCell, brokenCell, wrongSum, atPlayer, brokenBy, verdict, Closes}
 use Rattle.join.proofs.Cells.{holds-as, holds-then}
 use Rattle.join.proofs.Firsts.{first-as, first-listed, first-under, first-none}
-use Rattle.join.proofs.Codes.{seenOf}
 use Rattle.join.proofs.Steps.{After}
 use Rattle.join.proofs.Close.{WellSlot, WellLine, theBye, normal-colour, normal-result, NonePast, closed, closing-zero, seen-cell, rounds-seen, map-at}
 use Rattle.join.proofs.Turns.{rounds-listed, places-listed}

@@ -1,61 +1,31 @@
 -- The reader as a whole: the run over the lines stops at the file's first line fault, or the checks after it give the file's first fault, or the tables hold the tournament. Assumes nothing.
-use mathlib.Core.Path.{_≡_, refl, sym, ap, ap₂, _∙_, subst}
-use mathlib.Core.Logic.{_⊎_, inl, inr}
-use mathlib.Core.Bool.{Bool, true, false, cond, _&&_, _||_, not}
-use mathlib.Core.Option.{Option, none, some, Option·none-ne-some}
+use mathlib.Core.Path.{_≡_, refl, sym, ap, ap₂, _∙_}
+use mathlib.Core.Bool.{Bool, true, false, cond, _&&_}
+use mathlib.Core.Option.{Option, none, some}
 use mathlib.Core.List.{List, [], _∷_, _++_, map}
-use Prim.Native.Nat.{ℕ, zero, suc, _+_, _*_, _-_, _/_, _%_, _≤_, _<_}
-use Prim.Native.Char.{code}
-use native.Mathlib.Nat.{zero-add}
-use native.Mathlib.Omega.{arith}
-use borrow.Author.Tests.{lt-ltb, le-ltb, ltb-true, not-true, not-false}
-use lib.Dec.{eqb, leb, ltb}
-use lib.ListN.{length, getD, take, replicate, length-map, length-replicate}
-use lib.Seq.{length-take-le}
-use Rattle.kit.specs.Lists.{all, any, among, isEmpty, onlyOr, first, flat, from, Each}
-use Rattle.kit.specs.First.{AllOf, NoneOf}
-use Rattle.kit.specs.Decides.{Decides, to, orElse}
-use Rattle.kit.specs.Table.{Holds}
-use Rattle.kit.proofs.Bools.{clash, and, both, among-all}
-use Rattle.kit.proofs.Decided.{no-some}
-use Rattle.kit.proofs.Firsts.{all-of-at, all-of-append, first-append, none-found}
-use Rattle.types.specs.declared.Acceleration.{Acceleration}
-use Rattle.law.specs.Sizes.{mostFile, mostPlayers, mostRounds, mostAccelerations, mostText}
-use Rattle.law.specs.Lines.{Line, Lines}
+use Prim.Native.Nat.{ℕ, _+_, _-_}
+use borrow.Author.Tests.{ltb-true, not-false}
+use lib.Dec.{ltb}
+use lib.ListN.{length}
+use Rattle.kit.specs.Lists.{all, first, flat, Each}
+use Rattle.kit.specs.First.{AllOf}
+use Rattle.kit.specs.Decides.{to, orElse}
+use Rattle.kit.proofs.Bools.{and, among-all}
+use Rattle.kit.proofs.Firsts.{all-of-append, first-append}
+use Rattle.law.specs.Lines.{Line}
 use Rattle.law.specs.Columns.{blank, isBlank, part, col, column, rowOf}
-use Rattle.law.specs.Text.{isName, ended}
-use Rattle.law.specs.Scoring.{values, scoringOf}
-use Rattle.law.specs.Accelerations.{accelerationCode}
-use Rattle.law.specs.Players.{PlayerLine, playerCode, Slot, SpellsSlot, SpellsPlayer, slotColours, slotResults, capital, idField, entryColourColumn, resultColumn, roundFields, everyRound}
+use Rattle.law.specs.Players.{Slot, SpellsSlot, slotColours, slotResults, capital, idField, entryColourColumn, resultColumn, roundFields, everyRound}
 use Rattle.law.specs.Items.{Item, passed, text, rounds, colour, scoring, acceleration, player}
-use Rattle.law.specs.Tournament.{Entry, Player, Tournament, textIn, roundsIn, colourIn, scoringIn, accelerationIn, playerIn, normal, slotAt, usedRounds, roundsOf, playerOf, tournamentOf}
-use Rattle.law.specs.Entries.{noEntry, noPlayer, playerAt, entryOf, Law, bye-or-game, mutual-pairing, fitting-results, one-U, keeps, statesSum}
-use Rattle.law.specs.Lawful.{noAcceleration, sharesEarlier}
-use Rattle.law.specs.Spelling.{SpellsLine, noLine, isPast}
-use Rattle.law.specs.Tables.{keptCells, entryCells, lineCells, cellsOf, linesContent, contentOf, placeIn, roundIn, entryCellsOf}
-use Rattle.law.specs.Refusals.{linesOf, playerSeats, accelerationSeats, seatsFrom, FileFault, incomplete, past-142, shared, unlawful, wrong-sum, fileFaults, isComplete, isFileFault, Label, too-short, too-big, at-line, of-file, lineFaults, lineFaultNumber, fileFaultNumber, Refusal, refusal, refusalOf, lineLabels, eachRound, eachSeat, labelsOf, labels, nowhere, Outcome, refused, accepted, Judged}
-use Rattle.law.proofs.Cut.{cut}
-use Rattle.law.proofs.FieldsRead.{numberOf, numberOr0, none-there, number-or-blank, blank-is}
+use Rattle.law.specs.Tournament.{playerIn}
+use Rattle.law.specs.Spelling.{SpellsLine}
+use Rattle.law.specs.Refusals.{at-line, lineFaults, lineFaultNumber, Refusal, refusal, refusalOf, lineLabels}
+use Rattle.law.proofs.FieldsRead.{numberOr0, number-or-blank, blank-is}
 use Rattle.law.proofs.ColumnLaws.{column-cell}
-use Rattle.law.proofs.Faults.{lineItems, lines-spelled, testLine, testLabel, testFile}
-use Rattle.law.proofs.LinesRead.{LinesGood}
-use Rattle.law.proofs.LinesLawful.{rounds-small, each-length}
-use Rattle.law.proofs.NewAndFew.{few-fits}
-use Rattle.law.proofs.Seats.{player-lines, acceleration-lines, seat}
-use Rattle.law.proofs.Judges.{outcomeOf, outcomeBy, judged}
-use Rattle.join.specs.Run.{Way, on, stop, runAll, firstAll, Match}
-use Rattle.join.specs.Grid.{firstFrom}
-use Rattle.join.specs.Store.{Nine, Count, State, state, noCount, stepLine, rawCells}
-use Rattle.join.specs.Kept.{rawGrid, RawHold, CountedBy, Counted, Long}
-use Rattle.join.specs.Check.{placeAt, roundAt, isSeen, roundsFound, roundsSeen, pastCell, sharedRecord, closing, keepsCell, brokenCell, wrongSum, atPlayer, brokenBy, verdict}
-use Rattle.join.proofs.Cells.{holds-as, holds-then}
-use Rattle.join.proofs.Firsts.{first-as, first-listed, first-under, first-none, any-of}
-use Rattle.join.proofs.Runs.{runs}
-use Rattle.join.proofs.Codes.{seenOf, named-is}
-use Rattle.join.proofs.Steps.{After, faultOf, agrees}
-use Rattle.join.proofs.Close.{WellSlot, WellLine, theBye, normal-colour, normal-result, NonePast, closed, closing-zero, seen-cell, rounds-seen, map-at}
-use Rattle.join.proofs.Turns.{rounds-listed, places-listed}
-use Rattle.join.proofs.Checks.{HoldCells, keeps-cell, sum-cell, shared-is}
+use Rattle.law.proofs.Faults.{testLine, testLabel}
+use Rattle.law.proofs.LinesLawful.{each-length}
+use Rattle.join.specs.Run.{firstAll}
+use Rattle.join.proofs.Steps.{faultOf}
+use Rattle.join.proofs.Close.{WellSlot, WellLine}
 
 -- ---- what a spelled 001 line is
 well-slot : (row : List ℕ) (r : ℕ) (s : Slot) → SpellsSlot row r s → WellSlot s

@@ -1,7 +1,7 @@
 -- What the state holds after some lines: the counts of the items that they spell, and their raw cells.
 use mathlib.Core.Path.{_≡_}
-use mathlib.Core.Bool.{Bool, true, false, not}
-use mathlib.Core.List.{List, [], _∷_, map}
+use mathlib.Core.Bool.{Bool, not}
+use mathlib.Core.List.{List, [], map}
 use Prim.Native.Nat.{ℕ, _≤_}
 use lib.ListN.{length, getD, replicate}
 use Rattle.kit.specs.Lists.{isEmpty, flat, onlyOr}
@@ -20,7 +20,7 @@ use Rattle.law.specs.Lawful.{noAcceleration}
 use Rattle.law.specs.Tables.{keptCells, entryCells, lineCells, cellsOf, placeIn, roundIn, linesContent}
 use Rattle.law.specs.Refusals.{linesOf}
 use Rattle.join.specs.Grid.{entryIn}
-use Rattle.join.specs.Store.{Nine, Count, State, rawCells}
+use Rattle.join.specs.Store.{Nine, Count, rawCells}
 
 abbrev pub rawGrid : (Entry → ℕ) → List PlayerLine → ℕ → ℕ
 rawGrid part rows i = entryIn part noEntry (map rawCells rows) (placeIn i) (roundIn i)

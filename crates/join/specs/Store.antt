@@ -1,20 +1,18 @@
 -- What the reader keeps, and what each line does to it. Means: no part of the statement.
-use mathlib.Core.Path.{_≡_}
-use mathlib.Core.Bool.{Bool, true, false, cond, _&&_, _||_, not}
+use mathlib.Core.Bool.{Bool, true, false, cond, _&&_, not}
 use mathlib.Core.Option.{Option, none, some}
-use mathlib.Core.List.{List, [], _∷_, _++_, map}
-use Prim.Native.Nat.{ℕ, zero, suc, _+_, _*_, _-_, _≤_, _<_}
-use lib.Dec.{eqb, leb, ltb}
+use mathlib.Core.List.{List, [], _∷_, map}
+use Prim.Native.Nat.{ℕ, _+_, _*_, _-_}
+use lib.Dec.{eqb, ltb}
 use lib.ListN.{length, getD, set, replicate}
 use lib.Seq.{paste}
-use Rattle.kit.specs.Lists.{all, any, same, isEmpty, flat, onlyOr}
+use Rattle.kit.specs.Lists.{all, same}
 use Rattle.kit.specs.Decides.{isSome}
-use Rattle.kit.specs.Table.{Holds}
 use Rattle.types.specs.declared.Acceleration.{Acceleration}
 use Rattle.law.specs.Sizes.{mostLine, mostPlayers, mostAccelerations, mostText}
 use Rattle.law.specs.Lines.{allowed, Line, isEnded}
 use Rattle.law.specs.Columns.{rowOf, part, width, codeField}
-use Rattle.law.specs.Text.{textCodes, repeatedCode, ended}
+use Rattle.law.specs.Text.{textCodes, ended}
 use Rattle.law.specs.Scoring.{values, scoringOf}
 use Rattle.law.specs.Players.{Slot, PlayerLine, keptField}
 use Rattle.law.specs.Items.{Kind, passed-over, kept-text, 142-record, 152-record, 162-record, 250-record, 001-record, unlisted, kindOf}

@@ -1,9 +1,8 @@
 -- The first of which a proposition holds is one at most, with no decision; where a test decides the proposition, `first` finds it. Assumes nothing.
 use mathlib.Core.Path.{_≡_, refl, sym, ap, _∙_, subst}
-use mathlib.Core.Logic.{_⊎_, inl, inr}
 use mathlib.Core.Bool.{Bool, true, false, cond, _||_}
-use mathlib.Core.Option.{Option, none, some}
-use mathlib.Core.List.{List, [], _∷_, _++_, append-assoc, map}
+use mathlib.Core.Option.{none, some}
+use mathlib.Core.List.{List, [], _∷_, _++_, map}
 use Prim.Native.Nat.{ℕ, zero, suc, _<_}
 use lib.ListN.{length, getD}
 use native.Mathlib.Omega.{arith}
@@ -11,7 +10,7 @@ use lib.Dec.{eqb}
 use borrow.Author.Tests.{eqb-true}
 use Rattle.kit.specs.Lists.{among, first, flat}
 use Rattle.kit.specs.First.{AllOf, NoneOf, FirstIn}
-use Rattle.kit.specs.Decides.{Decides, Tests, orElse, to}
+use Rattle.kit.specs.Decides.{Decides, Tests, orElse}
 use Rattle.kit.proofs.Bools.{clash}
 use Rattle.kit.proofs.Decided.{fails, failed}
 

@@ -1,7 +1,7 @@
 -- A file is accepted exactly when it spells a lawful tournament, and it spells no other. Assumes nothing.
 use mathlib.Core.Path.{_≡_, refl, sym, ap, _∙_, subst}
 use mathlib.Core.Bool.{Bool, true, false, _&&_, _||_, not}
-use mathlib.Core.List.{List, [], _∷_, _++_, map}
+use mathlib.Core.List.{List, [], _∷_, map}
 use Prim.Native.Nat.{ℕ, _-_, _≤_, _<_}
 use native.Mathlib.Omega.{arith}
 use lib.Dec.{eqb, leb}
@@ -12,26 +12,25 @@ use Rattle.kit.specs.First.{AllOf, NoneOf}
 use Rattle.kit.proofs.Bools.{clash, and, both, not-so}
 use Rattle.kit.proofs.Decided.{unique}
 use Rattle.kit.proofs.Firsts.{all-of-append, all-of-left, all-of-right, all-of-map, all-of-flat, flat-all-of, all-of-each, all-in, all-every}
-use Rattle.types.specs.declared.Acceleration.{Acceleration}
 use Rattle.law.specs.Sizes.{mostFile, mostRounds}
 use Rattle.law.specs.Lines.{Line, Lines}
 use Rattle.law.specs.Heads.{initialColours}
 use Rattle.law.specs.Text.{isName}
-use Rattle.law.specs.Scoring.{defaults, scoringOf}
+use Rattle.law.specs.Scoring.{scoringOf}
 use Rattle.law.specs.Accelerations.{accelerationCode, isAcceleration}
-use Rattle.law.specs.Players.{playerCode, PlayerLine}
+use Rattle.law.specs.Players.{playerCode}
 use Rattle.law.specs.Items.{Item}
-use Rattle.law.specs.Tournament.{Player, Tournament, roundsIn, colourIn, scoringIn, accelerationIn, playerIn, textIn, roundsOf, playerOf, tournamentOf}
+use Rattle.law.specs.Tournament.{Tournament, roundsIn, colourIn, scoringIn, accelerationIn, playerIn, textIn, roundsOf, playerOf, tournamentOf}
 use Rattle.law.specs.Entries.{Law, bye-or-game, mutual-pairing, fitting-results, one-U, keeps, statesSum}
-use Rattle.law.specs.Lawful.{LawfulPlayer, Sits, sharesEarlier, Lawful}
-use Rattle.law.specs.Spelling.{isSound, SpellsLine, isPast, SpellsFile}
+use Rattle.law.specs.Lawful.{LawfulPlayer, sharesEarlier, Lawful}
+use Rattle.law.specs.Spelling.{SpellsLine, isPast, SpellsFile}
 use Rattle.law.specs.Refusals.{linesOf, playerSeats, accelerationSeats, FileFault, incomplete, past-142, shared, unlawful, wrong-sum, fileFaults, isComplete, isFileFault, OfItems, Label, of-file, IsFault, fileFaultNumber, lineLabels, labelsOf, labels}
 use Rattle.law.proofs.Cut.{one-lines}
 use Rattle.law.proofs.Faults.{lines-spelled}
 use Rattle.law.proofs.LinesRead.{LinesGood, lines-good, good-lines}
 use Rattle.law.proofs.Seats.{player-lines, acceleration-lines, seat, rounds-all, all-rounds, places-all, all-places}
 use Rattle.law.proofs.LinesLawful.{Small, scoring-small, LawfulLine, lawful-player, texts-fine, colours-fine, scorings-fine, accelerations-fine, players-fine, rounds-small}
-use Rattle.law.proofs.NewAndFew.{Once, new-once, once-new, differ-same, AllFit, few-fits, fits-few}
+use Rattle.law.proofs.NewAndFew.{new-once, once-new, differ-same, few-fits, fits-few}
 
 -- ---- the file as a whole: 10, 11, 17 and 12 to 16
 pub record FileGood (is : List Item) : Type 0 where

@@ -4,11 +4,9 @@ use mathlib.Core.Bool.{Bool, true, false, cond, _&&_, not}
 use mathlib.Core.Option.{Option, none, some}
 use mathlib.Core.List.{List, [], _∷_, _++_, append-nil}
 use Prim.Native.Nat.{ℕ}
-use native.Mathlib.Omega.{arith}
 use lib.Dec.{eqb}
 use borrow.Author.Tests.{eqb-true, not-true}
-use Rattle.kit.specs.Lists.{isEmpty}
-use Rattle.kit.proofs.Bools.{clash, and, both}
+use Rattle.kit.proofs.Bools.{clash, and}
 use Rattle.law.specs.Lines.{CR, LF, End, cr, crlf, Line, endBytes, joined, hasNoCR, startsWithLF, Follows, AreLines, Lines}
 
 -- ---- from the right; after: the byte before was a CR

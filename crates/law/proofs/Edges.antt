@@ -1,13 +1,12 @@
 -- The limits of document 01 by their numerals, where a row would be too long to compute. Assumes nothing.
-use mathlib.Core.Path.{_≡_, refl, sym, ap, _∙_, subst}
-use mathlib.Core.Bool.{Bool, true, false, not}
+use mathlib.Core.Path.{_≡_, refl, sym, ap, subst}
+use mathlib.Core.Bool.{Bool, true, false}
 use mathlib.Core.List.{List, [], _∷_, map}
-use Prim.Native.Nat.{ℕ, _+_, _≤_, _<_}
+use Prim.Native.Nat.{ℕ, _+_, _≤_}
 use native.Mathlib.Omega.{arith}
 use lib.ListN.{length}
 use borrow.Author.Tests.{lt-ltb, le-ltb}
 use Rattle.kit.specs.Lists.{flat}
-use Rattle.kit.specs.First.{FirstIn}
 use Rattle.kit.proofs.Bools.{clash}
 use Rattle.types.specs.declared.Acceleration.{Acceleration}
 use Rattle.law.specs.Text.{ended}
@@ -16,7 +15,7 @@ use Rattle.law.specs.Items.{Item, text, acceleration, player}
 use Rattle.law.specs.Tournament.{textIn, accelerationIn, playerIn}
 use Rattle.types.specs.declared.Answer.{Answer}
 use Rattle.law.specs.Tables.{Tables, Lent, rooms, lineCells, enoughLent}
-use Rattle.law.specs.Refusals.{isTooMany, Label, too-short, too-big, labels, IsFault, refusal, Outcome, refused, Judged}
+use Rattle.law.specs.Refusals.{isTooMany, too-short, too-big, labels, IsFault, refusal, Outcome, refused, Judged}
 use Rattle.law.specs.Calls.{refusedAnswer, Cleared, Leaves, Reads}
 use Rattle.law.proofs.Cut.{cut, lines-are}
 use Rattle.law.proofs.Judges.{one-outcome}

@@ -1,16 +1,16 @@
 -- The fields decided: functions that compute, and that they decide the relations of Fields and Text's `Trimmed`. Assumes nothing.
 use mathlib.Core.Path.{_≡_, refl, sym, ap, _∙_, subst}
-use mathlib.Core.Logic.{_⊎_, inl, inr}
-use mathlib.Core.Bool.{Bool, true, false, cond, _&&_, _||_, not}
-use mathlib.Core.Option.{Option, none, some, Option·none-ne-some}
-use mathlib.Core.List.{List, [], _∷_, _++_, append-nil}
-use Prim.Native.Nat.{ℕ, zero, suc, _+_, _*_, _-_, _≤_}
+use mathlib.Core.Logic.{inl, inr}
+use mathlib.Core.Bool.{Bool, true, false, cond, _&&_}
+use mathlib.Core.Option.{Option, none, some}
+use mathlib.Core.List.{List, [], _∷_, _++_}
+use Prim.Native.Nat.{ℕ, zero, suc, _+_, _*_, _-_}
 use Prim.Native.Char.{code}
 use native.Mathlib.Omega.{arith}
-use lib.Dec.{eqb, leb}
+use lib.Dec.{eqb}
 use lib.ListN.{replicate}
-use borrow.Author.Tests.{eq-eqb, ne-eqb, eqb-true}
-use Rattle.kit.specs.Lists.{between, all}
+use borrow.Author.Tests.{ne-eqb, eqb-true}
+use Rattle.kit.specs.Lists.{all}
 use Rattle.kit.specs.Decides.{Decides, when}
 use Rattle.kit.proofs.Bools.{clash, and, both, within}
 use Rattle.kit.proofs.Decided.{when-inv, no-some}

@@ -1,7 +1,7 @@
 -- Rows of our own, computed: each guards a rule that no marked row and no theorem guards. The lines are laid out here by hand, apart from the statement's
 -- own columns. Assumes nothing.
 use mathlib.Core.Path.{_≡_, refl}
-use mathlib.Core.Bool.{Bool, true}
+use mathlib.Core.Bool.{true}
 use mathlib.Core.List.{List, [], _∷_, _++_, map}
 use Prim.Native.Nat.{ℕ, _+_, _-_}
 use Prim.Native.Char.{code}
@@ -22,7 +22,7 @@ use Rattle.law.specs.Refusals.{isAgain, isTooMany, linesOf, isFileFault,
 use Rattle.law.specs.Writing.{writtenLines, written, earnedBefore, accelerationFor}
 use Rattle.law.proofs.RecordsRead.{itemOf}
 use Rattle.law.proofs.Judges.{outcomeOf}
-use Rattle.law.proofs.Samples.{Table, starts, points, ranks, kept, opponents, colours, results, text, lines, added, first-rounds, last-rounds, first-starts, last-starts, text-length, initial-colour, value, Row, refuses, accepts, stores, rewrites, asks, spells, spells-nothing, RowHolds, test, all-tested}
+use Rattle.law.proofs.Samples.{starts, points, ranks, kept, opponents, colours, results, text, lines, added, first-rounds, last-rounds, first-starts, last-starts, text-length, initial-colour, value, Row, refuses, accepts, stores, rewrites, asks, spells, spells-nothing, RowHolds, test, all-tested}
 use Rattle.law.proofs.Marked.{line, cup, roe, poe, sampleT}
 
 -- ---- texts at their columns, from column c on

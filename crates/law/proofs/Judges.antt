@@ -3,9 +3,8 @@ use mathlib.Core.Path.{_≡_, refl, sym, ap, _∙_, subst}
 use mathlib.Core.Logic.{_↔_}
 use mathlib.Core.Bool.{Bool, true, false}
 use mathlib.Core.Option.{Option, none, some}
-use mathlib.Core.List.{List, [], _∷_}
-use Prim.Native.Nat.{ℕ, _≤_, _<_}
-use native.Mathlib.Omega.{arith}
+use mathlib.Core.List.{List}
+use Prim.Native.Nat.{ℕ, _≤_}
 use lib.ListN.{length}
 use Rattle.kit.specs.Lists.{first, Each}
 use Rattle.kit.specs.First.{NoneOf, FirstIn}
@@ -21,7 +20,7 @@ use Rattle.law.specs.Items.{Item}
 use Rattle.law.specs.Tournament.{Tournament, tournamentOf}
 use Rattle.law.specs.Lawful.{Lawful}
 use Rattle.law.specs.Spelling.{SpellsLine, SpellsFile}
-use Rattle.law.specs.Refusals.{linesOf, Label, too-short, IsFault, labels, Refusal, refusal, refusalOf, Outcome, refused, accepted, Refused, Accepted, Judged}
+use Rattle.law.specs.Refusals.{linesOf, Label, IsFault, labels, Refusal, refusal, refusalOf, Outcome, refused, accepted, Refused, Accepted, Judged}
 use Rattle.law.proofs.Cut.{cut, lines-are, lines-unique, one-lines}
 use Rattle.law.proofs.Faults.{lineItems, lines-spelled, testLabel, isFault, faults}
 use Rattle.law.proofs.Accepts.{no-fault-lawful, lawful-no-fault, one-tournament}

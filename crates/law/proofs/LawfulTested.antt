@@ -1,8 +1,8 @@
 -- `SpellsFile` and `Lawful` decided: what a file spells, lawful or not, and a test for a lawful tournament. Assumes nothing.
-use mathlib.Core.Path.{_≡_, refl, sym, ap, _∙_, subst}
+use mathlib.Core.Path.{_≡_, refl, sym, ap, _∙_}
 use mathlib.Core.Bool.{Bool, true, false, _&&_, _||_, not}
 use mathlib.Core.Option.{Option, none, some}
-use mathlib.Core.List.{List, [], _∷_, map}
+use mathlib.Core.List.{List, [], _∷_}
 use Prim.Native.Nat.{ℕ, _+_, _≤_, _<_}
 use native.Mathlib.Omega.{arith}
 use lib.Dec.{eqb, leb}
@@ -15,18 +15,18 @@ use Rattle.kit.proofs.Bools.{clash, and, both, tests-of, of-tests, same-is, is-
 use Rattle.kit.proofs.Decided.{when-inv, keep-inv, to-at}
 use Rattle.kit.proofs.Lists.{all-from, from-all}
 use Rattle.law.specs.Sizes.{mostLine, mostPlayers, mostRounds, mostAccelerations, mostText, mostPoints, mostStart, mostRank}
-use Rattle.law.specs.Lines.{allowed, Line, Lines}
+use Rattle.law.specs.Lines.{allowed}
 use Rattle.law.specs.Columns.{width}
 use Rattle.law.specs.Text.{SpellsText, isName, ended, isRepeated}
 use Rattle.law.specs.Heads.{initialColours}
 use Rattle.law.specs.Scoring.{values}
 use Rattle.law.specs.Accelerations.{isAcceleration}
-use Rattle.law.specs.Players.{SpellsKept, keptField}
+use Rattle.law.specs.Players.{keptField}
 use Rattle.law.specs.Items.{Item, Kind, passed-over, kept-text, 142-record, 152-record, 162-record, 250-record, 001-record, unlisted, kindOf}
 use Rattle.law.specs.Tournament.{Player, Tournament, roundsIn, colourIn, scoringIn, playerIn, tournamentOf}
 use Rattle.law.specs.Entries.{Law, bye-or-game, mutual-pairing, fitting-results, one-U, keeps, statesSum}
 use Rattle.law.specs.Lawful.{KeptLine, LawfulPlayer, Sits, isTaken, sharesEarlier, Lawful}
-use Rattle.law.specs.Spelling.{isSound, SpellsLine, isPast, SpellsFile}
+use Rattle.law.specs.Spelling.{isSound, isPast, SpellsFile}
 use Rattle.law.proofs.Cut.{cut, lines-are, lines-unique}
 use Rattle.law.proofs.RecordsRead.{textOf, text-line, isKept, kept-columns}
 use Rattle.law.proofs.Faults.{lineItems, lines-spelled}

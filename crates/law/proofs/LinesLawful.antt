@@ -1,31 +1,30 @@
 -- What sound lines that spell items make lawful: text lines, records and players, each by itself. Assumes nothing.
-use mathlib.Core.Path.{_≡_, refl, sym, ap, _∙_, subst}
-use mathlib.Core.Bool.{Bool, true, false, cond, _&&_, _||_, not}
-use mathlib.Core.List.{List, [], _∷_, _++_, map, append-nil}
-use Prim.Native.Nat.{ℕ, zero, suc, _+_, _*_, _-_, _≤_, _<_, min}
+use mathlib.Core.Path.{_≡_, refl, sym, ap, _∙_}
+use mathlib.Core.Bool.{Bool, true, false, cond, _&&_, _||_}
+use mathlib.Core.List.{List, [], _∷_, _++_, append-nil}
+use Prim.Native.Nat.{ℕ, suc, _+_, _-_, _≤_}
 use Prim.Native.Char.{code}
 use native.Mathlib.Omega.{arith}
 use lib.Dec.{eqb, leb}
-use lib.ListN.{length, getD, drop, take, replicate, length-map, length-append}
+use lib.ListN.{length, drop, take, replicate, length-map, length-append}
 use lib.Seq.{length-take-le}
-use borrow.Author.Tests.{le-leb, leb-true, eq-eqb, eqb-true}
-use Rattle.kit.specs.Lists.{between, all, any, among, same, isOneOf, from, flat, Each, onlyOr}
+use borrow.Author.Tests.{le-leb, leb-true, eqb-true}
+use Rattle.kit.specs.Lists.{between, all, among, flat, Each, onlyOr}
 use Rattle.kit.specs.First.{AllOf}
-use Rattle.kit.proofs.Bools.{clash, and, both, within}
+use Rattle.kit.proofs.Bools.{and, both, within}
 use Rattle.kit.proofs.Firsts.{all-of-append}
 use Rattle.kit.proofs.Lists.{top-low}
-use Rattle.types.specs.declared.Acceleration.{Acceleration}
 use Rattle.law.specs.Sizes.{mostLine, mostRounds, mostPoints, mostStart, mostRank}
 use Rattle.law.specs.Lines.{allowed, Line, isEnded}
-use Rattle.law.specs.Columns.{blank, isBlank, cells, col, part, rowOf, width, blankFrom, afterCode, codeField}
+use Rattle.law.specs.Columns.{blank, isBlank, col, rowOf, width, afterCode}
 use Rattle.law.specs.Fields.{isDigit, digitValue, isTens, SpellsPoints}
-use Rattle.law.specs.Text.{textCodes, nameCode, isName, saysName, lastOr, Trimmed, SpellsText, ended}
-use Rattle.law.specs.Heads.{roundsCode, colourCode, initialColours}
-use Rattle.law.specs.Scoring.{Scoring, values, defaults, givenOr, scoringOf, FilledFirst, scoringCode}
-use Rattle.law.specs.Accelerations.{accelerationCode, isAcceleration}
-use Rattle.law.specs.Players.{playerCode, keptField, SpellsKept, Slot, SpellsSlot, PlayerLine, everyRound}
-use Rattle.law.specs.Items.{Item, passed, text, rounds, colour, scoring, acceleration, player, isPassed, Kind, passed-over, kept-text, 142-record, 152-record, 162-record, 250-record, 001-record, unlisted, kindOf, SpellsItem}
-use Rattle.law.specs.Tournament.{Player, normal, textIn, roundsIn, colourIn, scoringIn, accelerationIn, playerIn, usedRounds, roundsOf, playerOf}
+use Rattle.law.specs.Text.{saysName, SpellsText}
+use Rattle.law.specs.Heads.{initialColours}
+use Rattle.law.specs.Scoring.{values, givenOr, scoringOf, FilledFirst}
+use Rattle.law.specs.Accelerations.{isAcceleration}
+use Rattle.law.specs.Players.{keptField, SpellsKept, SpellsSlot, PlayerLine, everyRound}
+use Rattle.law.specs.Items.{Item, passed, text, rounds, colour, scoring, acceleration, player, kept-text, kindOf}
+use Rattle.law.specs.Tournament.{normal, textIn, roundsIn, colourIn, scoringIn, accelerationIn, playerIn, usedRounds, roundsOf, playerOf}
 use Rattle.law.specs.Lawful.{KeptLine, LawfulPlayer}
 use Rattle.law.specs.Spelling.{isSound, SpellsLine}
 use Rattle.law.proofs.ColumnLaws.{length-cells, all-blank-same, drop-blank-same, cells-blanks, getD-blanks, all-cells}

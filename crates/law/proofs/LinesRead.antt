@@ -1,23 +1,22 @@
 -- The faults of the lines: none is one exactly where each line is sound, spells an item, and repeats and exceeds nothing before it. Assumes nothing.
-use mathlib.Core.Path.{_≡_, refl, sym, ap, _∙_, subst}
-use mathlib.Core.Bool.{Bool, true, false, _&&_, not}
+use mathlib.Core.Path.{_≡_, refl, sym, ap, _∙_}
+use mathlib.Core.Bool.{Bool, true, _&&_, not}
 use mathlib.Core.Option.{Option, none, some}
 use mathlib.Core.List.{List, [], _∷_, _++_, map}
-use Prim.Native.Nat.{ℕ, _-_, _≤_, _<_}
+use Prim.Native.Nat.{ℕ, _-_, _≤_}
 use native.Mathlib.Omega.{arith}
 use lib.Dec.{leb}
 use lib.ListN.{length, getD}
-use borrow.Author.Tests.{leb-true, le-leb, leb-false}
+use borrow.Author.Tests.{leb-true, leb-false}
 use Rattle.kit.specs.Lists.{all, among, eachAfter, Each}
 use Rattle.kit.specs.First.{AllOf}
-use Rattle.kit.specs.Decides.{Decides}
 use Rattle.kit.proofs.Bools.{clash, and, both, not-so, is-so}
 use Rattle.kit.proofs.Decided.{unique, refused}
 use Rattle.kit.proofs.Firsts.{all-of-append, all-of-left, all-of-right, all-of-map, map-all-of, all-in, all-every}
 use Rattle.law.specs.Sizes.{mostLine}
 use Rattle.law.specs.Lines.{allowed, Line, isEnded}
 use Rattle.law.specs.Columns.{rowOf}
-use Rattle.law.specs.Items.{Item, passed, text, rounds, colour, scoring, acceleration, player, Kind, passed-over, kept-text, 142-record, 152-record, 162-record, 250-record, 001-record, unlisted, kindOf, SpellsItem}
+use Rattle.law.specs.Items.{Item, passed, text, rounds, colour, scoring, acceleration, player, unlisted, kindOf, SpellsItem}
 use Rattle.law.specs.Spelling.{isSound, SpellsLine}
 use Rattle.law.specs.Refusals.{LineFault, bad-byte, no-CR, too-long, not-listed, bad-field, again, too-many, lineFaults, isAgain, isTooMany, After, IsLineFault, Label, at-line, IsFault, lineFaultNumber, lineLabels}
 use Rattle.law.proofs.Faults.{lineItem, line, lines-spelled, isUnlisted}

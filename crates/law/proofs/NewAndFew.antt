@@ -1,20 +1,19 @@
 -- 8 and 9 line by line are what is asked of the whole: nothing stands twice, and all fits. Assumes nothing.
-use mathlib.Core.Path.{_≡_, refl, sym, ap, _∙_, subst}
+use mathlib.Core.Path.{_≡_, refl, sym, ap, _∙_}
 use mathlib.Core.Bool.{Bool, true, false, _&&_, _||_, not}
 use mathlib.Core.List.{List, [], _∷_, _++_, map}
-use Prim.Native.Nat.{ℕ, _+_, _≤_, _<_}
+use Prim.Native.Nat.{ℕ, _+_, _≤_}
 use native.Mathlib.Omega.{arith}
 use lib.Dec.{eqb, ltb}
-use lib.ListN.{length, length-append, length-map}
+use lib.ListN.{length, length-append}
 use Rattle.kit.specs.Lists.{any, isEmpty, atMostOne, eachAfter, flat}
 use Rattle.kit.proofs.Bools.{and, both}
 use Rattle.kit.proofs.Lists.{flat-snoc, after-both, after-same, after-added, after-none, all-fit, fit-all, any-map, after-map}
-use Rattle.types.specs.declared.Acceleration.{Acceleration}
 use Rattle.law.specs.Sizes.{mostPlayers, mostAccelerations, mostText}
 use Rattle.law.specs.Text.{ended, isRepeated}
 use Rattle.law.specs.Players.{PlayerLine}
 use Rattle.law.specs.Items.{Item, passed, text, rounds, colour, scoring, acceleration, player}
-use Rattle.law.specs.Tournament.{Player, textIn, roundsIn, colourIn, scoringIn, accelerationIn, playerIn, playerOf}
+use Rattle.law.specs.Tournament.{textIn, roundsIn, colourIn, scoringIn, accelerationIn, playerIn, playerOf}
 use Rattle.law.specs.Lawful.{isTaken}
 use Rattle.law.specs.Refusals.{isAgain, isTooMany}
 use Rattle.law.proofs.LinesRead.{isNew, isFew}

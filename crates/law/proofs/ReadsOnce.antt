@@ -1,9 +1,8 @@
 -- `Reads` permits one answer and one content of every lent cell for each input, whatever the lengths, and permits one. Assumes nothing.
-use mathlib.Core.Path.{_≡_, refl, sym, ap, _∙_, subst}
-use mathlib.Core.Bool.{Bool, true, false, _&&_}
+use mathlib.Core.Path.{_≡_, refl, sym, _∙_, subst}
+use mathlib.Core.Bool.{Bool, true, false}
 use mathlib.Core.List.{List, [], _∷_}
 use Prim.Native.Nat.{ℕ, _≤_}
-use native.Mathlib.Omega.{arith}
 use lib.Dec.{leb}
 use lib.ListN.{length}
 use borrow.Author.Tests.{leb-true}
@@ -16,9 +15,9 @@ use Rattle.law.specs.Tournament.{Tournament}
 use Rattle.law.specs.Lawful.{Lawful, noAcceleration}
 use Rattle.law.specs.Spelling.{SpellsFile}
 use Rattle.law.specs.Tables.{Tables, Lent, keptCells, entryCells, lineCells, rooms, areLong, enough, enoughLent, Content, contentOf, linesContent, zeros, HoldAll, HoldLent, answerOf}
-use Rattle.law.specs.Refusals.{Refusal, Outcome, refused, accepted, Judged}
+use Rattle.law.specs.Refusals.{Outcome, refused, accepted, Judged}
 use Rattle.law.specs.Calls.{refusedAnswer, Cleared, Leaves, Reads}
-use Rattle.law.proofs.Judges.{outcomeOf, judged, one-outcome, accepted-lawful, lawful-accepted, accepted-long}
+use Rattle.law.proofs.Judges.{outcomeOf, judged, one-outcome, lawful-accepted, accepted-long}
 
 -- ---- one content
 module _ (c : Content) (before : Tables) where

@@ -1,11 +1,11 @@
 -- The records and the line decided: functions that compute, and that they decide the relations of the statement. Assumes nothing.
-use mathlib.Core.Path.{_≡_, refl, sym, ap, _∙_, subst}
-use mathlib.Core.Bool.{Bool, true, false, cond, _&&_, _||_, not}
+use mathlib.Core.Path.{_≡_, refl, sym, ap, subst}
+use mathlib.Core.Bool.{Bool, true, false, _&&_, not}
 use mathlib.Core.Option.{Option, none, some}
-use mathlib.Core.List.{List, [], _∷_, _++_, map}
-use Prim.Native.Nat.{ℕ, _≤_}
+use mathlib.Core.List.{List, [], _∷_, map}
+use Prim.Native.Nat.{ℕ}
 use native.Mathlib.Omega.{arith}
-use lib.Dec.{eqb, leb}
+use lib.Dec.{leb}
 use lib.ListN.{drop}
 use borrow.Author.Tests.{le-leb, leb-true, not-true}
 use Rattle.kit.specs.Lists.{between, all, among, isOneOf, isEmpty, Each}
@@ -15,7 +15,7 @@ use Rattle.kit.proofs.Decided.{together, renamed, kept, guardedBy, made, retold
 use Rattle.types.specs.declared.Acceleration.{Acceleration}
 use Rattle.law.specs.Sizes.{mostRounds, mostStart, mostRank}
 use Rattle.law.specs.Columns.{Field, isBlank, col, part, column, elseBlank, afterCode}
-use Rattle.law.specs.Fields.{SpellsNumber, SpellsPoints, SpellsNumberOrBlank}
+use Rattle.law.specs.Fields.{SpellsNumber, SpellsPoints}
 use Rattle.law.specs.Text.{saysName, SpellsText}
 use Rattle.law.specs.Heads.{roundsField, SpellsRounds, colourColumn, initialColours, SpellsColour}
 use Rattle.law.specs.Scoring.{letters, slotFields, SpellsValue, FilledFirst, lettersDiffer, SpellsScoring}

@@ -3,7 +3,7 @@
 use mathlib.Core.Path.{_≡_, refl, sym, ap, _∙_, subst}
 use mathlib.Core.Bool.{Bool, true, false, _&&_, not}
 use mathlib.Core.Option.{Option, none, some}
-use mathlib.Core.List.{List, [], _∷_, _++_, map}
+use mathlib.Core.List.{List, [], _∷_, map}
 use Prim.Native.Nat.{ℕ, _<_}
 use Prim.Native.Char.{code}
 use lib.Dec.{eqb, ltb}
@@ -11,7 +11,7 @@ use lib.ListN.{length, getD, getD-replicate}
 use borrow.Author.Tests.{eqb-true, ltb-true}
 use Rattle.kit.specs.Lists.{all, same}
 use Rattle.kit.specs.First.{AllOf}
-use Rattle.kit.specs.Decides.{Decides, isSome}
+use Rattle.kit.specs.Decides.{isSome}
 use Rattle.kit.proofs.Bools.{clash, and, same-is}
 use Rattle.kit.proofs.Decided.{spelled, unspelled}
 use Rattle.types.specs.declared.Acceleration.{Acceleration}

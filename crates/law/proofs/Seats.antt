@@ -1,27 +1,23 @@
 -- Which lines are the players' and the acceleration records', how many there are, and labels by place and round. Assumes nothing.
 use mathlib.Core.Path.{_≡_, refl, sym, ap, _∙_, subst}
-use mathlib.Core.Bool.{Bool, true, false, cond, _&&_, _||_, not}
-use mathlib.Core.List.{List, [], _∷_, _++_, map}
+use mathlib.Core.Bool.{Bool, true, false, cond}
+use mathlib.Core.List.{List, [], _∷_, map}
 use Prim.Native.Nat.{ℕ, zero, suc, _+_, _≤_, _<_}
-use native.Mathlib.Decide.{ℕ-discrete}
 use native.Mathlib.Omega.{arith}
-use lib.Dec.{eqb}
 use lib.ListN.{length, getD, length-append}
-use Rattle.kit.specs.Ascii.{ascii}
-use Rattle.kit.specs.Lists.{all, same, isOneOf, from, flat, Each}
-use Rattle.kit.specs.First.{AllOf, NoneOf}
-use Rattle.kit.proofs.Bools.{clash, and, both, same-is, not-so, one-of-texts}
-use Rattle.kit.proofs.Firsts.{all-of-map, map-all-of, all-of-flat, flat-all-of, all-of-each}
+use Rattle.kit.specs.Lists.{all, same, isOneOf, flat, Each}
+use Rattle.kit.specs.First.{AllOf}
+use Rattle.kit.proofs.Bools.{clash, same-is}
+use Rattle.kit.proofs.Firsts.{all-of-map, map-all-of, all-of-flat, flat-all-of}
 use Rattle.kit.proofs.Lists.{all-from, from-all}
-use Rattle.types.specs.declared.Acceleration.{Acceleration}
 use Rattle.law.specs.Sizes.{mostRounds}
 use Rattle.law.specs.Lines.{Line}
-use Rattle.law.specs.Columns.{blank, isBlank, padded, cells, rowOf, part, codeField}
+use Rattle.law.specs.Columns.{blank, isBlank, cells, rowOf, part, codeField}
 use Rattle.law.specs.Text.{textCodes}
 use Rattle.law.specs.Heads.{roundsCode, colourCode}
 use Rattle.law.specs.Scoring.{scoringCode}
 use Rattle.law.specs.Accelerations.{accelerationCode}
-use Rattle.law.specs.Players.{playerCode, everyRound, PlayerLine}
+use Rattle.law.specs.Players.{playerCode, everyRound}
 use Rattle.law.specs.Items.{Item, passed, text, rounds, colour, scoring, acceleration, player, isPassed, Kind, passed-over, kept-text, 142-record, 152-record, 162-record, 250-record, 001-record, unlisted, kindOf, SpellsItem}
 use Rattle.law.specs.Tournament.{accelerationIn, playerIn}
 use Rattle.law.specs.Spelling.{SpellsLine}

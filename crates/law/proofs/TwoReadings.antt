@@ -1,22 +1,19 @@
 -- Two lawful tournaments have two readings: the answer and the tables, line numbers left out, tell which one was read. Assumes nothing.
-use mathlib.Core.Path.{_≡_, refl, sym, ap, ap₂, _∙_, subst}
-use mathlib.Core.Bool.{Bool, true, false, _&&_, not}
+use mathlib.Core.Path.{_≡_, refl, sym, ap, ap₂, _∙_}
+use mathlib.Core.Bool.{true, not}
 use mathlib.Core.List.{List, [], _∷_, _++_, map, append-assoc}
-use Prim.Native.Nat.{ℕ, zero, suc, _+_, _*_, _-_, _/_, _%_, _≤_, _<_}
+use Prim.Native.Nat.{ℕ, _+_, _*_, _-_, _≤_, _<_}
 use native.Mathlib.Omega.{arith}
 use lib.Dec.{eqb}
-use lib.ListN.{length, getD, length-map, List·getD-map}
+use lib.ListN.{length, getD, List·getD-map}
 use lib.Seq.{ext-getD}
-use borrow.Author.Tests.{eqb-false, not-true, eq-eqb}
 use Rattle.kit.specs.Lists.{all, between, flat}
 use Rattle.kit.specs.First.{AllOf}
-use Rattle.kit.specs.Table.{Holds}
-use Rattle.kit.proofs.Bools.{clash, and, within}
+use Rattle.kit.proofs.Bools.{and, within}
 use Rattle.kit.proofs.Firsts.{all-of-at, all-of-each}
-use Rattle.kit.proofs.Lists.{flat-length, flat-at}
-use Rattle.types.specs.declared.Acceleration.{Acceleration}
+use Rattle.kit.proofs.Lists.{flat-at}
 use Rattle.types.specs.declared.Answer.{Answer}
-use Rattle.law.specs.Sizes.{mostPlayers, mostRounds, mostAccelerations, mostText}
+use Rattle.law.specs.Sizes.{mostPlayers, mostAccelerations, mostText}
 use Rattle.law.specs.Lines.{CR, allowed}
 use Rattle.law.specs.Columns.{width}
 use Rattle.law.specs.Text.{ended}

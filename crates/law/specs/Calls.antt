@@ -1,9 +1,8 @@
 -- The three calls: what each leaves in the answer and in every lent cell. These relations are all that a public contract cites. A lent `&` table or file stays as it is by its type, so only what is lent as `&mut` has a before and an after.
 use mathlib.Core.Path.{_≡_}
-use mathlib.Core.Bool.{Bool, true, false, cond}
+use mathlib.Core.Bool.{Bool, true, false}
 use mathlib.Core.List.{List, [], _∷_, map}
 use Prim.Native.Nat.{ℕ, _<_, _≤_}
-use lib.Dec.{eqb, leb}
 use lib.ListN.{length, getD}
 use Rattle.kit.specs.First.{NoneOf, FirstIn}
 use Rattle.kit.specs.Table.{Holds}

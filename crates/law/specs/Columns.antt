@@ -1,6 +1,6 @@
 -- Rows and columns. "Columns count bytes from 1. Columns past the end of a line read as blank."
 use mathlib.Core.Bool.{Bool, _&&_}
-use mathlib.Core.List.{List, [], _∷_, map}
+use mathlib.Core.List.{List, [], _∷_}
 use Prim.Native.Nat.{ℕ, zero, suc, _-_}
 use lib.Dec.{eqb}
 use lib.ListN.{getD, drop}

@@ -1,7 +1,7 @@
 -- What a line spells: one item, by its record's code.
 use mathlib.Core.Path.{_≡_}
 use mathlib.Core.Bool.{Bool, cond, _||_}
-use mathlib.Core.List.{List, [], _∷_}
+use mathlib.Core.List.{List}
 use Prim.Native.Nat.{ℕ}
 use Rattle.kit.specs.Ascii.{ascii}
 use Rattle.kit.specs.Lists.{all, same, isOneOf}

@@ -1,7 +1,7 @@
 -- 001, a player's line: start number, the kept columns 10-79, points, rank, and twenty rounds.
 use mathlib.Core.Path.{_≡_}
-use mathlib.Core.Bool.{Bool, true, false, cond, _&&_, _||_, not}
-use mathlib.Core.List.{List, [], _∷_, _++_, map}
+use mathlib.Core.Bool.{Bool, true, cond, _||_, not}
+use mathlib.Core.List.{List, [], _∷_, _++_}
 use Prim.Native.Nat.{ℕ, _+_, _*_, _-_}
 use Prim.Native.Char.{code}
 use lib.ListN.{replicate}

@@ -1,11 +1,11 @@
 -- Which byte strings spell which tournament: lines, each of which spells an item, and what the items say together. 142 may stand anywhere, or be missing.
 use mathlib.Core.Path.{_≡_}
 use mathlib.Core.Bool.{Bool, true, false, _&&_}
-use mathlib.Core.List.{List, [], _∷_}
+use mathlib.Core.List.{List, []}
 use Prim.Native.Nat.{ℕ, _<_, _≤_}
 use lib.Dec.{leb, ltb}
 use lib.ListN.{length, getD}
-use Rattle.kit.specs.Lists.{all, any, atMostOne, flat, Each}
+use Rattle.kit.specs.Lists.{all, atMostOne, flat, Each}
 use Rattle.law.specs.Sizes.{mostLine, mostRounds}
 use Rattle.law.specs.Lines.{allowed, Line, Lines, isEnded}
 use Rattle.law.specs.Columns.{rowOf}

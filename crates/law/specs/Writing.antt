@@ -1,12 +1,11 @@
 -- The writer's bytes for a tournament and a terminator, and the question's two values.
-use mathlib.Core.Bool.{Bool, cond}
+use mathlib.Core.Bool.{cond}
 use mathlib.Core.Option.{Option, none, some}
 use mathlib.Core.List.{List, [], _∷_, _++_, map}
 use Prim.Native.Nat.{ℕ, zero, suc, _+_, _-_, _/_, _%_}
 use Prim.Native.Char.{code}
 use lib.Dec.{eqb}
 use lib.ListN.{replicate, take}
-use Rattle.kit.specs.Ascii.{ascii}
 use Rattle.kit.specs.Lists.{first, flat}
 use Rattle.types.specs.declared.Acceleration.{Acceleration}
 use Rattle.law.specs.Lines.{End, endBytes}

@@ -1,8 +1,8 @@
 -- An array of a declared type within a struct: what the struct's laws say of the field is what the array's own type says. Assumes nothing.
-use mathlib.Core.Path.{_≡_, sym, _∙_, subst}
+use mathlib.Core.Path.{sym, _∙_, subst}
 use Prim.Native.Nat.{ℕ}
 use mathlib.Core.List.{List, [], _∷_, map}
-use lib.ListN.{length, length-map}
+use lib.ListN.{length-map}
 use mir.Val.{Val}
 use denote.Shadow.{shadow}
 use denote.Laws.{Is}

@@ -6,31 +6,29 @@ use mathlib.Core.List.{List, [], _∷_}
 use Prim.Native.Nat.{ℕ, _-_, _≤_}
 use native.Mathlib.Omega.{arith}
 use borrow.Author.Tests.{eq-eqb, ne-eqb}
-use lib.Dec.{eqb}
 use lib.ListN.{length, getD, replicate, length-map}
 use Rattle.kit.specs.Lists.{onlyOr, flat}
 use Rattle.kit.specs.First.{AllOf}
 use Rattle.kit.specs.Table.{Holds}
 use Rattle.types.specs.declared.Acceleration.{Acceleration}
-use Rattle.types.specs.declared.Answer.{Answer}
 use Rattle.law.specs.Sizes.{mostFile, mostRounds, mostAccelerations}
 use Rattle.law.specs.Lines.{Line}
 use Rattle.law.specs.Items.{Item}
 use Rattle.law.specs.Accelerations.{accelerationCode}
-use Rattle.law.specs.Players.{PlayerLine, playerCode}
+use Rattle.law.specs.Players.{playerCode}
 use Rattle.law.specs.Tournament.{Tournament, scoringIn, playerIn, roundsOf, playerOf, tournamentOf}
 use Rattle.law.specs.Lawful.{noAcceleration}
-use Rattle.law.specs.Tables.{contentOf, linesContent, answerOf}
-use Rattle.law.specs.Refusals.{Refusal, refusal, linesOf, Outcome, refused, accepted}
+use Rattle.law.specs.Tables.{contentOf, answerOf}
+use Rattle.law.specs.Refusals.{Refusal, refusal, linesOf, refused, accepted}
 use Rattle.law.proofs.Cut.{cut}
 use Rattle.law.proofs.LinesLawful.{Small, scoring-small, scorings-fine, rounds-small}
-use Rattle.join.specs.Run.{Way, on, stop, runAll, firstAll, Match}
+use Rattle.join.specs.Run.{on, stop, runAll, firstAll, Match}
 use Rattle.join.specs.Store.{Nine, Count, State, state, noCount, stepLine}
 use Rattle.join.specs.Kept.{RawHold, Long, Zeroed}
 use Rattle.join.specs.Check.{roundsFound, verdict, Closes}
 use Rattle.join.proofs.Cells.{holds-as, holds-then}
 use Rattle.join.proofs.Steps.{After, faultOf}
-use Rattle.join.proofs.Verdict.{Held, rounds-are, no-verdict}
+use Rattle.join.proofs.Verdict.{rounds-are, no-verdict}
 use Rattle.join.proofs.Reading as reading
 use Rattle.index.specs.Index.{Indexed}
 use Rattle.index.proofs.Indexes.{index-zeros}
@@ -48,7 +46,7 @@ use Rattle.judges.specs.declared.Finished.{Finished}
 use Rattle.judges.specs.Closing.{dash, zed, ClosedBy}
 use Rattle.judges.proofs.Judging.{verdict-numbered}
 use Rattle.lines_read.specs.declared.CoreAnswer.{CoreAnswer}
-use Rattle.lines_read.specs.Core.{noRecords, refusedCore, acceptedCore, HoldNine, Within, WithinNine, LinesAccepted, LinesRefused, LinesRead}
+use Rattle.lines_read.specs.Core.{noRecords, refusedCore, acceptedCore, Within, WithinNine, LinesRead}
 
 -- by the answer's name
 pub read-as : {file : List ℕ} {b x : Nine} {r u : CoreAnswer} → r ≡ u → LinesRead file b u x → LinesRead file b r x

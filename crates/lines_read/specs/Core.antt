@@ -1,17 +1,17 @@
 -- What the lines of a file leave in cleared tables, and the answer with the acceleration records by value and how many of them are to be filled in.
 use mathlib.Core.Path.{_≡_}
 use mathlib.Core.Bool.{true}
-use mathlib.Core.List.{List, _++_}
-use Prim.Native.Nat.{ℕ, _≤_}
-use lib.ListN.{length, take, drop, replicate, getD}
+use mathlib.Core.List.{List}
+use Prim.Native.Nat.{ℕ}
+use lib.ListN.{replicate, getD}
 use Rattle.kit.specs.Table.{Holds}
 use Rattle.types.specs.declared.Acceleration.{Acceleration}
 use Rattle.law.specs.Sizes.{mostPlayers, mostAccelerations, mostText}
 use Rattle.law.specs.Tournament.{Tournament}
 use Rattle.law.specs.Lawful.{noAcceleration}
-use Rattle.law.specs.Tables.{Lent, Content, keptCells, entryCells, lineCells, contentOf, linesContent, answerOf}
+use Rattle.law.specs.Tables.{Content, keptCells, entryCells, lineCells, contentOf, linesContent, answerOf}
 use Rattle.law.specs.Refusals.{Refusal, Outcome, refused, accepted, Judged}
-use Rattle.law.specs.Calls.{refusedAnswer, Reads}
+use Rattle.law.specs.Calls.{refusedAnswer}
 use Rattle.join.specs.Store.{Nine, Count}
 use Rattle.lines_read.specs.declared.CoreAnswer.{CoreAnswer}
 

@@ -112,10 +112,9 @@ pub fn read_lines(
 {
     let mut index = [0u8; START_CELLS];
     let mut cells = [0u32; RECORD_CELLS];
-    let none = no_counts();
     let ran = runs::run(
         file,
-        none,
+        no_counts(),
         &mut index,
         &mut cells,
         starts,

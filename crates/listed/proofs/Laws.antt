@@ -17,7 +17,7 @@ use Rattle.law.specs.Tournament.{Tournament}
 use Rattle.law.specs.Lawful.{Lawful, noAcceleration}
 use Rattle.law.specs.Tables.{Lent, keptCells, entryCells, lineCells, enoughLent, answerOf}
 use Rattle.law.specs.Refusals.{Refusal, Outcome, refused, accepted, Judged}
-use Rattle.law.specs.Calls.{refusedAnswer, Leaves, Reads}
+use Rattle.law.specs.Calls.{refusedAnswer, Leaves}
 use Rattle.law.proofs.Judges.{accepted-lawful}
 use Rattle.join.specs.Store.{Nine}
 use Rattle.join.specs.Kept.{Long}

@@ -1,5 +1,4 @@
 // A file's listing: the file is read into tables of the listed sizes, and what was read is listed; from a descriptor, and to standard output.
-ghost use Prim.Native.Nat.{_≤_};
 ghost use lib.ListN.{length};
 ghost use Rattle.io.specs.Counts.{Counts};
 ghost use Rattle.listing.specs.Outcomes.{Lists};

@@ -7,7 +7,7 @@ use native.Mathlib.Nat.{add-zero}
 use native.Mathlib.Numerals.{add-one}
 use native.Mathlib.Omega.{arith}
 use lib.ListN.{length, take, drop, set, length-append}
-use lib.Seq.{paste, paste-zero, set-split, append-snoc, take-length, take-paste, drop-paste, drop-drop, length-paste}
+use lib.Seq.{paste-zero, set-split, append-snoc, take-length, take-paste, drop-paste, drop-drop, length-paste}
 use Rattle.listing.specs.Put.{Put}
 
 pub put-none : (at : ℕ) (t : List ℕ) → at ≤ length t → Put [] at t at t

@@ -5,9 +5,9 @@ use Prim.Native.Nat.{ℕ}
 use lib.ListN.{length}
 use Rattle.kit.specs.Ascii.{ascii}
 use Rattle.kit.specs.Lists.{flat}
-use Rattle.law.specs.Tournament.{Entry, Player, Tournament}
+use Rattle.law.specs.Tournament.{Entry, Player}
 use Rattle.law.specs.Tables.{Tables}
-use Rattle.law.specs.Refusals.{Refusal, Outcome, refused, accepted, Judged}
+use Rattle.law.specs.Refusals.{Outcome, refused, accepted, Judged}
 use Rattle.listing.specs.Put.{Put}
 use Rattle.listing.specs.Listing.{Six, lf, entryField, standing, answerLine}
 

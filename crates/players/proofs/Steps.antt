@@ -1,5 +1,5 @@
 -- What the step of a 001 line gives, by the tests on its way; and the index with a player more. Assumes nothing.
-use mathlib.Core.Path.{_≡_, refl, sym, ap, ap₂, _∙_, subst}
+use mathlib.Core.Path.{_≡_, refl, sym, ap, _∙_, subst}
 use mathlib.Core.Bool.{true, false, not}
 use mathlib.Core.Option.{Option, none, some}
 use mathlib.Core.List.{List}
@@ -8,12 +8,11 @@ use native.Mathlib.Omega.{arith}
 use lib.ListN.{length, set}
 use borrow.Author.Tests.{lt-ltb, le-ltb}
 use Rattle.types.specs.declared.Place.{Place}
-use Rattle.kit.specs.Decides.{Decides}
 use Rattle.kit.proofs.Bools.{clash, within}
 use Rattle.law.specs.Sizes.{mostPlayers, mostStart}
 use Rattle.law.specs.Players.{PlayerLine}
 use Rattle.law.proofs.RecordsRead.{playerOf, player-line}
-use Rattle.join.specs.Run.{Way, on, stop}
+use Rattle.join.specs.Run.{on, stop}
 use Rattle.join.specs.Store.{Nine, Count, State, state, placeOf, storePlayer, countPlayer, stepPlayer}
 use Rattle.fields.proofs.Cases.{standing, stands-is}
 use Rattle.rows.specs.declared.Row.{Row}

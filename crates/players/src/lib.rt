@@ -1,5 +1,4 @@
-// A 001 line: its player in the tables and in the index of the start numbers. Promised: what each lent cell holds
-// afterwards, and that the step is join's.
+// A 001 line: its player in the tables and in the index of the start numbers. Promised: what each lent cell holds afterwards, and that the step is join's.
 ghost use mathlib.Core.Path.{_≡_};
 ghost use mathlib.Core.List.{List};
 ghost use Prim.Native.Nat.{ℕ, _+_, _<_, _≤_};

@@ -6,7 +6,7 @@ use native.Mathlib.Nat.{zero-add, add-assoc}
 use native.Mathlib.Numerals.{add-one}
 use native.Mathlib.Omega.{arith}
 use lib.ListN.{length, getD, set, take, drop, length-append, length-set, List·getD-append}
-use lib.Seq.{paste, paste-zero, length-paste, take-paste, drop-paste, take-all, drop-drop, append-snoc, set-split, set-append-left, take-set-lt, drop-set-lt, take-at, drop-at, length-take-le, take-take, getD-append-add, getD-drop}
+use lib.Seq.{paste, paste-zero, length-paste, take-paste, drop-paste, take-all, drop-drop, append-snoc, set-split, set-append-left, take-set-lt, drop-set-lt, length-take-le, take-take, getD-append-add, getD-drop}
 use Rattle.kit.specs.Table.{Holds}
 use Rattle.puts.specs.Puts.{Puts}
 
@@ -127,32 +127,6 @@ puts-before {a} {n} {at} {j} {v} {x} {y} p =
 -- four bytes that are equal to four others
 pub four : {a b c d a′ b′ c′ d′ : ℕ} → a ≡ a′ → b ≡ b′ → c ≡ c′ → d ≡ d′ → _≡_ {A = List ℕ} (a ∷ b ∷ c ∷ d ∷ []) (a′ ∷ b′ ∷ c′ ∷ d′ ∷ [])
 four e f g h = cc
-
--- ---- what is there afterwards: before the position and after the last byte what was, and the bytes between
-module _ {a : List ℕ} {n at j : ℕ} {x y : List ℕ} (p : Puts a n at x y j) where
-  pub puts-front : take at y ≡ take at x
-  puts-front =
-      let r = p .room in
-      ap (take at) (p .written ∙ append-assoc (take at x) (take n a) (drop (at + n) x)) ∙ take-at (take at x) (take n a ++ drop (at + n) x) at (length-take-le at x (omega arith))
-
-  pub puts-behind : drop j y ≡ drop j x
-  puts-behind =
-      let r = p .room in
-      let w = p .wide in
-      ap₂ drop (p .ends) (p .written) ∙ drop-paste x at a n (omega arith) (omega arith) ∙ ap (λ (k : ℕ). drop k x) (sym (p .ends))
-
-  -- by the bytes' own length
-  pub puts-whole : (y ≡ paste x at a (length a)) × (j ≡ at + length a)
-  puts-whole = (p .written ∙ ap (paste x at a) (sym (p .wide)), p .ends ∙ ap (λ (k : ℕ). at + k) (sym (p .wide)))
-
-  pub puts-there : take n (drop at y) ≡ a
-  puts-there =
-      let r = p .room in
-      let w = p .wide in
-      ap (λ (u : List ℕ). take n (drop at u)) (p .written ∙ append-assoc (take at x) (take n a) (drop (at + n) x))
-      ∙ ap (take n) (drop-at (take at x) (take n a ++ drop (at + n) x) at (length-take-le at x (omega arith)))
-      ∙ take-at (take n a) (drop (at + n) x) n (length-take-le n a (omega arith))
-      ∙ take-all n a (omega arith)
 
 -- the last piece of a line that is laid out has nothing after it
 pub puts-last : {a : List ℕ} {n at j : ℕ} {x y : List ℕ} → Puts a n at x y j → Puts (a ++ []) n at x y j

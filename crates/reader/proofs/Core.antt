@@ -7,20 +7,19 @@ use native.Mathlib.Omega.{arith}
 use borrow.Author.Tests.{lt-ltb}
 use lib.ListN.{length, getD, take, drop, replicate, length-append, length-drop, length-replicate, getD-replicate, List·getD-append}
 use lib.Seq.{take-length, getD-append-add, getD-drop}
-use Rattle.kit.specs.Lists.{first}
 use Rattle.kit.specs.Table.{Holds}
 use Rattle.kit.proofs.Tables.{holds-same}
 use Rattle.types.specs.declared.Acceleration.{Acceleration}
 use Rattle.law.specs.Sizes.{mostFile, mostPlayers, mostAccelerations, mostText}
 use Rattle.law.specs.Lawful.{noAcceleration}
-use Rattle.law.specs.Tables.{Lent, keptCells, entryCells, lineCells, areLong, enoughLent, Content, zeros, contentOf, linesContent, HoldAll, HoldLent, answerOf}
-use Rattle.law.specs.Refusals.{Label, Refusal, refusal, labels, Outcome, refused, accepted, Judged}
-use Rattle.law.specs.Calls.{refusedAnswer, Cleared, Leaves, Reads}
+use Rattle.law.specs.Tables.{keptCells, entryCells, lineCells, areLong, enoughLent, Content, zeros, contentOf, linesContent, HoldLent, answerOf}
+use Rattle.law.specs.Refusals.{Refusal, refusal, labels, Outcome, refused, accepted, Judged}
+use Rattle.law.specs.Calls.{refusedAnswer, Cleared}
 use Rattle.law.proofs.Judges.{outcomeOf, judged}
 use Rattle.law.proofs.ReadsOnce.{rooms-are, lent-enough}
 use Rattle.join.specs.Store.{Nine}
 use Rattle.join.specs.Kept.{Long, Zeroed}
-use Rattle.join.proofs.Cells.{holds-as, holds-then}
+use Rattle.join.proofs.Cells.{holds-then}
 use Rattle.lines_read.specs.declared.CoreAnswer.{CoreAnswer}
 use Rattle.lines_read.specs.Core.{noRecords, refusedCore, HoldNine, WithinNine, LinesLeave, LinesRead}
 use Rattle.reader.specs.Core.{lentWith, filledIn, CoreReads}

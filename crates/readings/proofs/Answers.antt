@@ -1,19 +1,16 @@
 -- From good cells, or cells that are not, to what the writer's and the question's relations permit. Assumes nothing.
 use mathlib.Core.Path.{_≡_, refl, sym, ap, ap₂, _∙_, subst}
 use mathlib.Core.Bool.{true, false}
-use mathlib.Core.List.{List, [], _∷_, map}
+use mathlib.Core.List.{List, [], _∷_}
 use Prim.Native.Nat.{ℕ, _+_, _-_, _≤_, _<_}
 use native.Mathlib.Omega.{arith}
 use lib.ListN.{length, getD, take}
 use lib.Seq.{length-take-le, getD-take}
-use Rattle.kit.specs.Lists.{first, from}
+use Rattle.kit.specs.Lists.{first}
 use Rattle.kit.specs.Table.{Holds}
 use Rattle.kit.proofs.Bools.{clash}
-use Rattle.types.specs.declared.Acceleration.{Acceleration}
 use Rattle.types.specs.declared.Answer.{Answer}
 use Rattle.types.specs.declared.Place.{Place}
-use Rattle.types.specs.declared.Score.{Score}
-use Rattle.types.specs.declared.Written.{Written}
 use Rattle.law.specs.Scoring.{values}
 use Rattle.law.specs.Accelerations.{covers}
 use Rattle.law.specs.Tournament.{Entry, Player, Tournament}
@@ -22,12 +19,12 @@ use Rattle.law.specs.Lawful.{Lawful}
 use Rattle.law.specs.Tables.{Tables, cellOf, enough}
 use Rattle.law.specs.Refusals.{noRefusal}
 use Rattle.law.specs.Writing.{written, earnedBefore, pointsOr0, accelerationFor}
-use Rattle.law.specs.Calls.{Reading, denialOf, tables-short, no-reading, out-short, no-place, NoReading, OutShort, NoPlace, writerEnd, writtenAnswer, WriteRefused, WriteDone, Writes, write-refused, write-done, scoreAnswer, AskRefused, AskDone, Asks, ask-refused, ask-done}
+use Rattle.law.specs.Calls.{Reading, denialOf, tables-short, no-reading, out-short, no-place, NoReading, OutShort, NoPlace, writerEnd, writtenAnswer, Writes, write-refused, write-done, scoreAnswer, Asks, ask-refused, ask-done}
 use Rattle.written.proofs.Readings.{has-reading, one-reading}
 use Rattle.join.specs.Check.{worthBy, sumAt, entryCell}
 use Rattle.join.proofs.Firsts.{sum-at}
 use Rattle.readings.specs.Good.{GoodReading, nineOf}
-use Rattle.readings.specs.Held.{held, heldPlayer, heldEntries, scoringBy}
+use Rattle.readings.specs.Held.{held, heldPlayer, heldEntries}
 use Rattle.readings.proofs.HeldPlayers.{entries-long, entry-at, players-long, player-at}
 use Rattle.readings.proofs.HeldLawful.{values-are}
 use Rattle.readings.proofs.Whole.{good-has, no-good}

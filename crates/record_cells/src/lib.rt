@@ -14,7 +14,7 @@ const NUMBERS: usize = 5;
 
 pub const RECORD_CELLS: usize = NUMBERS * MOST_ACCELERATIONS;
 
-// The record that has n before it.
+// Puts a record that has n before it.
 pub fn put(cells: &mut [u32; RECORD_CELLS], n: usize, a: Acceleration)
     requires { ⌜ (n < mostAccelerations) × (length (now cells) ≡ recordCells) ⌝ }
     ensures { λ _. ⌜ (recordsOf (now (cells .exit)) ≡ set (recordsOf (now (cells .entry))) n a) × (length (now (cells .exit)) ≡ recordCells) ⌝ }

@@ -5,7 +5,6 @@ use mathlib.Core.Option.{Option, some}
 use mathlib.Core.List.{List}
 use Prim.Native.Nat.{ℕ, _+_}
 use Rattle.kit.specs.Decides.{pair, to, when, keep}
-use Rattle.types.specs.declared.Acceleration.{Acceleration}
 use Rattle.law.specs.Columns.{cells, elseBlank, afterCode}
 use Rattle.law.specs.Accelerations.{isAcceleration, addedField, accelerationFields}
 use Rattle.law.proofs.FieldsRead.{numberOf, theNumber}

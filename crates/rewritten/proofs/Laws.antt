@@ -1,11 +1,11 @@
 -- What a writing promises, for printing it: no more bytes than there was room for. Assumes nothing.
-use mathlib.Core.Path.{_≡_, refl, sym, ap, _∙_, subst}
+use mathlib.Core.Path.{_≡_, refl, sym, ap, _∙_}
 use mathlib.Core.Bool.{Bool, true, false}
 use mathlib.Core.List.{List, map}
-use Prim.Native.Nat.{ℕ, _≤_, _<_}
+use Prim.Native.Nat.{ℕ, _≤_}
 use native.Mathlib.Omega.{arith}
 use lib.Dec.{leb}
-use lib.ListN.{length, length-map, take}
+use lib.ListN.{length, length-map}
 use lib.Seq.{length-take-le, take-all}
 use borrow.Author.Tests.{leb-true, leb-false}
 use Rattle.io.specs.Counts.{Counts}
@@ -16,7 +16,7 @@ use Rattle.law.specs.Sizes.{mostAccelerations}
 use Rattle.law.specs.Tables.{Tables}
 use Rattle.lawful.specs.Given.{Given}
 use Rattle.law.specs.Writing.{written}
-use Rattle.law.specs.Calls.{writerEnd, denialOf, writtenAnswer, OutShort, WriteDone, WriteRefused, Writes, write-refused, write-done}
+use Rattle.law.specs.Calls.{writerEnd, writtenAnswer, WriteDone, Writes, write-refused, write-done}
 
 wide : (a : Answer) (t : Tables) (x : List ℕ) (r : Written) (y : List ℕ) (h : WriteDone a t x r y) → length (written writerEnd (h .t)) ≤ length x
 wide a t x r y h = go (length (written writerEnd (h .t))) refl (leb (length (written writerEnd (h .t))) (length x)) refl

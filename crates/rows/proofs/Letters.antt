@@ -14,7 +14,7 @@ use Rattle.kit.specs.Decides.{when}
 use Rattle.kit.proofs.Bools.{among-all}
 use Rattle.law.specs.Columns.{isBlank, cells}
 use Rattle.law.specs.Players.{slotResults, capital}
-use Rattle.fields.specs.Said.{Said, says, refuses, orBadField}
+use Rattle.fields.specs.Said.{says, refuses, orBadField}
 use Rattle.fields.proofs.Cases.{never}
 use Rattle.kept_columns.proofs.KeptColumns.{gap}
 use Rattle.rows.specs.Rows.{resultIn}

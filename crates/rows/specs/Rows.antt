@@ -1,14 +1,14 @@
 -- What the readers of a 001 line answer: document 01's number and values for each case of their enum, and of the structs that stand in for one.
 use mathlib.Core.Path.{_≡_}
-use mathlib.Core.Bool.{true, false}
+use mathlib.Core.Bool.{Bool, true, false}
 use mathlib.Core.Option.{Option, some}
-use mathlib.Core.List.{List, map}
+use mathlib.Core.List.{List, [], _∷_, map}
 use Prim.Native.Nat.{ℕ, _+_, _*_, _≤_, _<_}
 use lib.ListN.{length, getD, replicate}
-use Rattle.kit.specs.Lists.{among, flat}
+use Rattle.kit.specs.Lists.{all, conj, among, flat}
 use Rattle.kit.specs.Decides.{when, keep}
 use Rattle.law.specs.Sizes.{mostRounds}
-use Rattle.law.specs.Columns.{blank, elseBlank}
+use Rattle.law.specs.Columns.{blank, isBlank, cells, elseBlank}
 use Rattle.law.specs.Players as law
 use Rattle.law.specs.Tournament.{Entry}
 use Rattle.law.proofs.RecordsRead.{slotsOf}
@@ -33,6 +33,13 @@ pub record Reaches (line : List ℕ) (reach : ℕ) : Type 0 where
   pub most : reach ≤ mostRounds
   pub long : roundsEnd reach ≤ length line
   pub blank-on : (i : ℕ) → roundsEnd reach ≤ i → i < playerColumns → getD line i blank ≡ blank
+
+-- the columns between the fields before the rounds; those before a round's fields and between them, the round's columns from at on
+abbrev pub headElseBlank : List ℕ → Bool
+headElseBlank line = conj (all isBlank (cells line 3 1) ∷ all isBlank (cells line 8 1) ∷ all isBlank (cells line 79 1) ∷ all isBlank (cells line 84 1) ∷ [])
+
+abbrev pub roundElseBlank : List ℕ → ℕ → Bool
+roundElseBlank line at = conj (all isBlank (cells line at 2) ∷ all isBlank (cells line (at + 6) 1) ∷ all isBlank (cells line (at + 8) 1) ∷ [])
 
 -- a result's letter
 abbrev pub letterSays : Letter → Said ℕ
@@ -66,7 +73,7 @@ unfoldable pub resultsOf : List Entry → List ℕ
 resultsOf cells = map (λ (e : Entry). e .result) cells
 
 unfoldable pub noSlots : Slots
-noSlots = record { good = false; ids = replicate 20 0; colours = replicate 20 0; results = replicate 20 0 }
+noSlots = record { good = false; ids = replicate mostRounds 0; colours = replicate mostRounds 0; results = replicate mostRounds 0 }
 
 unfoldable pub theSlots : List law.Slot → Slots
 theSlots slots = record { good = true; ids = idsOf (map rawCell slots); colours = coloursOf (map rawCell slots); results = resultsOf (map rawCell slots) }
@@ -84,9 +91,9 @@ noRow =
       rank = record { 0 = 0 };
       points = 0;
       kept = replicate 70 0;
-      ids = replicate 20 0;
-      colours = replicate 20 0;
-      results = replicate 20 0;
+      ids = replicate mostRounds 0;
+      colours = replicate mostRounds 0;
+      results = replicate mostRounds 0;
     }
 
 unfoldable pub theRow : law.PlayerLine → Row

@@ -1,4 +1,4 @@
-// A 001 line, by value: its player's numbers, its kept columns and its rounds. A line against its rule is refusal 7: Slot's Bad; Slots and Row
+// A 001 line, by value: its player's numbers, its kept columns and its rounds. A line against its rule is refusal 7: Slot's and Letter's Bad; Slots and Row
 // with good false.
 use fields::Number;
 use fields::Points;
@@ -13,7 +13,7 @@ ghost use mathlib.Core.Bool.{not, _&&_};
 ghost use mathlib.Core.List.{[], _∷_, _++_};
 ghost use Prim.Native.Nat.{_+_, _-_, _≤_, _<_};
 ghost use lib.ListN.{length, replicate};
-ghost use Rattle.kit.specs.Lists.{all, among, conj};
+ghost use Rattle.kit.specs.Lists.{all, among};
 ghost use Rattle.kit.specs.Decides.{to};
 ghost use Rattle.law.specs.Sizes.{mostRounds};
 ghost use Rattle.law.specs.Columns.{blank, isBlank, cells};
@@ -22,7 +22,7 @@ ghost use Rattle.law.specs.Tournament.{blankAs, normal};
 ghost use Rattle.law.proofs.RecordsRead.{slotOf, playerOf};
 ghost use Rattle.join.specs.Store.{rawCell};
 ghost use Rattle.fields.specs.Said.{says, orBadField};
-ghost use Rattle.rows.specs.Rows.{roundsEnd, playerColumns, Reaches, roundsIn, letterSays, resultIn, slotSays, bye, noSlots, SlotsSay, noRow, RowSays};
+ghost use Rattle.rows.specs.Rows.{roundsEnd, playerColumns, Reaches, roundsIn, headElseBlank, roundElseBlank, letterSays, resultIn, slotSays, bye, noSlots, SlotsSay, noRow, RowSays};
 
 // The columns up to the last round's result.
 const COLUMNS: usize = 89 + 10 * MOST_ROUNDS;
@@ -185,7 +185,7 @@ fn blank_pair(line: &[u8], i: usize) -> bool
 // Whether a round's columns between its fields, and those before it, are blank.
 fn round_else_blank(line: &[u8], at: usize) -> bool
     requires { ⌜ at + 8 < length (now line) ⌝ }
-    ensures { λ r. ⌜ r ≡ conj (all isBlank (cells (now (line .entry)) at 2) ∷ all isBlank (cells (now (line .entry)) (at + 6) 1) ∷ all isBlank (cells (now (line .entry)) (at + 8) 1) ∷ []) ⌝ }
+    ensures { λ r. ⌜ r ≡ roundElseBlank (now (line .entry)) at ⌝ }
 {
     if !blank_pair(line, at) {
         return false;
@@ -242,7 +242,7 @@ fn slots_of(line: &[u8], reach: usize) -> Slots
 // Whether the columns between the fields before the rounds are blank.
 fn player_else_blank(line: &[u8]) -> bool
     requires { ⌜ roundsEnd 0 ≤ length (now line) ⌝ }
-    ensures { λ r. ⌜ r ≡ conj (all isBlank (cells (now (line .entry)) 3 1) ∷ all isBlank (cells (now (line .entry)) 8 1) ∷ all isBlank (cells (now (line .entry)) 79 1) ∷ all isBlank (cells (now (line .entry)) 84 1) ∷ []) ⌝ }
+    ensures { λ r. ⌜ r ≡ headElseBlank (now (line .entry)) ⌝ }
 {
     if !blank_column(line, 3) {
         return false;
@@ -327,7 +327,7 @@ fn widened(line: &[u8]) -> [u8; COLUMNS]
 
 // How many rounds a line of n columns reaches: those of which it has a column.
 fn reach_of(n: usize) -> usize
-    ensures { λ r. ⌜ (r ≤ mostRounds) × (r < mostRounds → n ≤ roundsEnd r) ⌝ }
+    ensures { λ r. ⌜ (r ≤ mostRounds) × (r < mostRounds → n ≤ roundsEnd r) × (1 ≤ r → roundsEnd r < n + 10) ⌝ }
 {
     if COLUMNS <= n {
         return MOST_ROUNDS;

@@ -1,9 +1,8 @@
 -- The loop over the lines: what is left of the run is the whole run. How it begins, one turn, how it ends. Assumes nothing.
-use mathlib.Core.Path.{_≡_, refl, sym, ap, _∙_, subst}
-use mathlib.Core.Bool.{Bool, true, false, cond, not}
-use mathlib.Core.Option.{Option, none, some}
+use mathlib.Core.Path.{_≡_, refl, sym, ap, _∙_}
+use mathlib.Core.Bool.{Bool, true, false, cond}
 use mathlib.Core.List.{List, [], _∷_}
-use Prim.Native.Nat.{ℕ, suc, _+_, _-_, _≤_, _<_}
+use Prim.Native.Nat.{ℕ, suc, _+_, _-_, _≤_}
 use native.Mathlib.Omega.{arith}
 use lib.Dec.{eqb}
 use lib.ListN.{length, take, drop}
@@ -15,7 +14,7 @@ use Rattle.law.proofs.Cut.{cut, endFor}
 use Rattle.join.specs.Run.{Way, on, stop, next, runAll}
 use Rattle.join.specs.Store.{Nine, State, state, stepLine}
 use Rattle.join.specs.Kept.{Long}
-use Rattle.lines.specs.Step.{byteFault, FaultAt, WholeAt}
+use Rattle.lines.specs.Step.{FaultAt, WholeAt}
 use Rattle.index.specs.Index.{Indexed}
 use Rattle.record_cells.specs.Cells.{recordCells, recordsOf}
 use Rattle.steps.specs.declared.Counts.{Counts}

@@ -1,5 +1,5 @@
 -- A line of allowed bytes that has its terminator: 5, or what its kind does. Assumes nothing.
-use mathlib.Core.Path.{_≡_, refl, sym, ap, _∙_}
+use mathlib.Core.Path.{_≡_, refl}
 use mathlib.Core.Bool.{true}
 use mathlib.Core.List.{List, [], _∷_}
 use Prim.Native.Nat.{ℕ, _+_, _≤_, _<_}
@@ -10,7 +10,7 @@ use Rattle.kit.specs.Lists.{all}
 use Rattle.law.specs.Sizes.{mostLine}
 use Rattle.law.specs.Lines.{allowed, End}
 use Rattle.law.specs.Items.{Kind, passed-over, isPassed, kindOf}
-use Rattle.join.specs.Run.{Way, on, stop}
+use Rattle.join.specs.Run.{on, stop}
 use Rattle.join.specs.Store.{Nine, Count, State, state, stepRow, stepLine}
 use Rattle.runs.specs.Lined.{lineOf, Skipped}
 

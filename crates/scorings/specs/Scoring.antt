@@ -1,7 +1,7 @@
 -- What the readers of a 162 line answer: document 01's number and values for each case of their enum, and of the structs that stand in for one.
 use mathlib.Core.Bool.{Bool, true, false, cond, not}
 use mathlib.Core.Option.{Option}
-use mathlib.Core.List.{List, [], _∷_, map}
+use mathlib.Core.List.{List, map}
 use Prim.Native.Nat.{ℕ}
 use Prim.Native.Char.{code}
 use lib.Dec.{eqb}
@@ -15,7 +15,6 @@ use Rattle.fields.specs.Said.{Said, says, refuses, Stands}
 use Rattle.scorings.specs.declared.Value.{Value}
 use Rattle.scorings.specs.declared.Value.the-variants as value
 use Rattle.scorings.specs.declared.Given.{Given}
-use Rattle.scorings.specs.declared.Scoring.{Scoring}
 use Rattle.scorings.specs.declared.Scored.{Scored}
 
 -- the place of a letter among W D L A P X

@@ -7,7 +7,7 @@ use Prim.Native.Nat.{ℕ, _+_, _≤_}
 use native.Mathlib.Omega.{arith}
 use lib.ListN.{length, take, replicate, length-append}
 use lib.Seq.{take-at}
-use Rattle.kit.specs.Decides.{Decides, to}
+use Rattle.kit.specs.Decides.{to}
 use Rattle.kit.proofs.Bools.{clash}
 use Rattle.law.specs.Columns.{blank}
 use Rattle.law.specs.Text.{Trimmed}

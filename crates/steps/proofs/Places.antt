@@ -1,5 +1,5 @@
 -- The place of a kept text line's code among the sixteen. Assumes nothing.
-use mathlib.Core.Path.{_≡_, refl, sym, ap, ap₂, _∙_, subst}
+use mathlib.Core.Path.{_≡_, refl, sym, ap, _∙_, subst}
 use mathlib.Core.Bool.{Bool, true, false, cond, _||_}
 use mathlib.Core.List.{List, [], _∷_}
 use Prim.Native.Nat.{ℕ, _+_, _<_}
@@ -8,7 +8,7 @@ use native.Mathlib.Decide.{ℕ-discrete}
 use native.Mathlib.Omega.{arith}
 use lib.ListN.{length, getD}
 use borrow.Author.Tests.{ne-eqb}
-use Rattle.kit.specs.Lists.{any, same, isOneOf}
+use Rattle.kit.specs.Lists.{same, isOneOf}
 use Rattle.kit.proofs.Bools.{clash}
 use Rattle.law.specs.Columns.{blank, part, codeField}
 use Rattle.law.specs.Text.{textCodes}

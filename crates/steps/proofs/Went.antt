@@ -14,7 +14,7 @@ use Rattle.law.specs.Lines.{CR}
 use Rattle.law.specs.Text.{ended}
 use Rattle.law.specs.Scoring.{values, scoringOf}
 use Rattle.law.proofs.RecordsRead.{textOf}
-use Rattle.join.specs.Run.{Way, on, stop}
+use Rattle.join.specs.Run.{on, stop}
 use Rattle.join.specs.Store.{Nine, Count, State, state, countText, countRounds, countColour, countScoring, countAcceleration, storeText, storeLine, stepText, stepRounds, stepColour, stepScoring, stepAcceleration}
 use Rattle.steps.specs.Counts.{withText, withLines}
 use Rattle.steps.proofs.Answers.{Front}

@@ -19,7 +19,6 @@ use records::Accelerated;
 use records::Initial;
 use records::Rounds;
 use records::Text;
-use scorings::Scored;
 use scorings::Scoring;
 use types::LineNumber;
 use types::MOST_ACCELERATIONS;

@@ -13,7 +13,7 @@ pub enum Found {
     Nothing,
 }
 
-// Turns go player by player and each round by round: the place and the round of turn k.
+// The place and the round of turn k.
 pub fn place_at(k: usize) -> Place
     requires { ⌜ k < entryCells ⌝ }
     ensures { λ r. ⌜ r .0 ≡ placeAt k ⌝ }

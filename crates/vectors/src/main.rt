@@ -2,7 +2,6 @@
 //
 //     !NAME        the listing of the file that was made
 //     <NAME        the listing of the file that has the name
-ghost use Prim.Native.Nat.{_≤_};
 use drafts::Draft;
 use drafts::ROOM;
 use libc::STDIN_FILENO;

@@ -2,13 +2,12 @@
 use mathlib.Core.Path.{_≡_, refl, sym, ap, ap₂, _∙_}
 use mathlib.Core.Bool.{true}
 use mathlib.Core.List.{List, _++_, map, append-assoc}
-use Prim.Native.Nat.{ℕ, _+_, _*_, _≤_}
+use Prim.Native.Nat.{ℕ, _+_, _*_}
 use native.Mathlib.Omega.{arith}
 use lib.ListN.{length, take}
 use lib.Seq.{length-take-le}
 use Rattle.kit.specs.Lists.{flat}
 use Rattle.types.specs.declared.Answer.{Answer}
-use Rattle.law.specs.Text.{ended}
 use Rattle.law.specs.Tournament.{Tournament}
 use Rattle.law.specs.Tables.{Tables, enough}
 use Rattle.law.specs.Writing.{roundsLine, scoringLine, accelerationLine, playerLine, written}
@@ -20,7 +19,7 @@ use Rattle.readings.proofs.HeldPlayers.{players-long}
 use Rattle.readings.proofs.Whole.{good-has}
 use Rattle.puts.specs.Ends.{asEnd, endWide, endedBy}
 use Rattle.puts.specs.declared.Terminator.{Terminator}
-use Rattle.heads.specs.Lines.{scoringIn, scoringWide, accelerationWide}
+use Rattle.heads.specs.Lines.{scoringIn, accelerationWide}
 use Rattle.player_lines.specs.Lines.{playerWide}
 use Rattle.player_lines.specs.Rows.{Long, sevenOf, entriesIn, playerIn, playersIn}
 use Rattle.writer.specs.Report.{Fit, colourText, headsText, reportText, reportWide}

@@ -1,30 +1,29 @@
 -- The lines of 142, 152, 162 and 250, and of kept text, spell what they are made of, in allowed bytes. Assumes nothing.
-use mathlib.Core.Path.{_≡_, refl, sym, ap, _∙_, subst}
-use mathlib.Core.Logic.{_⊎_, inl, inr}
-use mathlib.Core.Bool.{Bool, true, false, _&&_, _||_, not}
-use mathlib.Core.List.{List, [], _∷_, _++_, append-nil}
-use Prim.Native.Nat.{ℕ, suc, _+_, _-_, _/_, _≤_, _<_}
+use mathlib.Core.Path.{_≡_, refl, sym, subst}
+use mathlib.Core.Logic.{inl, inr}
+use mathlib.Core.Bool.{Bool, true, false}
+use mathlib.Core.List.{List, [], _∷_, append-nil}
+use Prim.Native.Nat.{ℕ, _-_, _/_, _≤_, _<_}
 use Prim.Native.Char.{code}
 use native.Mathlib.Omega.{arith}
 use lib.Dec.{eqb, leb}
-use lib.ListN.{length, drop, drop-of-length-le}
+use lib.ListN.{length, drop-of-length-le}
 use borrow.Author.Tests.{leb-true, eq-eqb}
-use Rattle.kit.specs.Lists.{between, all, among}
-use Rattle.kit.specs.First.{AllOf}
+use Rattle.kit.specs.Lists.{all, among}
 use Rattle.kit.proofs.Bools.{and, both, tests-of, within, among-all}
 use Rattle.types.specs.declared.Acceleration.{Acceleration}
 use Rattle.law.specs.Sizes.{mostRounds, mostPoints, mostStart}
 use Rattle.law.specs.Lines.{allowed}
-use Rattle.law.specs.Columns.{blank, cells, padded, part, elseBlank, afterCode, codeField}
+use Rattle.law.specs.Columns.{blank, cells, padded, afterCode, codeField}
 use Rattle.law.specs.Fields.{SpellsLeading, SpellsNumber, SpellsPoints}
-use Rattle.law.specs.Heads.{roundsCode, roundsField, SpellsRounds, colourCode, initialColours, SpellsColour}
-use Rattle.law.specs.Scoring.{Scoring, letters, stated, values, scoringCode, slotFields, SpellsValue, SpellsScoring}
-use Rattle.law.specs.Accelerations.{accelerationRules, isAcceleration, accelerationCode, addedField, firstRoundField, lastRoundField, firstStartField, lastStartField, accelerationFields, SpellsAcceleration}
+use Rattle.law.specs.Heads.{roundsCode, roundsField, initialColours}
+use Rattle.law.specs.Scoring.{Scoring, letters, stated, values, scoringCode, slotFields, SpellsValue}
+use Rattle.law.specs.Accelerations.{accelerationRules, isAcceleration, accelerationCode, addedField, firstRoundField, lastRoundField, firstStartField, lastStartField}
 use Rattle.law.specs.Items.{text, rounds, colour, scoring, acceleration, kindOf, 250-record, SpellsItem}
 use Rattle.law.specs.Lawful.{KeptLine}
-use Rattle.law.specs.Writing.{Piece, blanks, filled, nothing, noughts, number, pointsText, slotPieces, roundsLine, colourLine, scoringLine, accelerationLine, laid}
-use Rattle.written.proofs.Laid.{Ordered, Stands, pieces-stand, laid-else, laid-long, else-past, laid-all}
-use Rattle.written.proofs.Numbers.{with-nothing, nothing-long, with-noughts, filled-long, noughts-long, points-text, digit-allowed, filled-allowed, replicate-allowed, points-allowed, shows, digits-allowed}
+use Rattle.law.specs.Writing.{Piece, filled, nothing, noughts, number, pointsText, slotPieces, roundsLine, colourLine, scoringLine, accelerationLine}
+use Rattle.written.proofs.Laid.{Ordered, pieces-stand, laid-else, laid-long, else-past, laid-all}
+use Rattle.written.proofs.Numbers.{with-nothing, nothing-long, with-noughts, filled-long, noughts-long, points-text, filled-allowed, replicate-allowed, points-allowed}
 
 -- ---- kept text is its own line
 pub text-item : (line : List ℕ) → KeptLine line → SpellsItem line (text line)

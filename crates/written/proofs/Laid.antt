@@ -1,17 +1,15 @@
 -- A line laid out: each piece stands in its field, the columns between are blank, and the line ends with its last piece. One law for all records. Assumes nothing.
-use mathlib.Core.Path.{_≡_, refl, sym, ap, ap₂, _∙_, subst}
-use mathlib.Core.Bool.{Bool, true, false, _&&_}
+use mathlib.Core.Path.{_≡_, refl, sym, ap, _∙_, subst}
+use mathlib.Core.Bool.{Bool, true}
 use mathlib.Core.List.{List, [], _∷_, _++_, map, append-assoc, append-nil}
-use Prim.Native.Nat.{ℕ, zero, suc, _+_, _-_, _≤_, _<_}
-use native.Mathlib.Nat.{zero-add}
+use Prim.Native.Nat.{ℕ, zero, suc, _+_, _-_, _≤_}
 use native.Mathlib.Omega.{arith}
-use lib.ListN.{length, drop, take, replicate, length-append, length-replicate, drop-of-length-le}
-use lib.Seq.{drop-append-add, drop-append-le, drop-at}
+use lib.ListN.{length, replicate, length-append, length-replicate, drop-of-length-le}
+use lib.Seq.{drop-append-add}
 use Rattle.kit.specs.Lists.{all}
 use Rattle.kit.specs.First.{AllOf}
-use Rattle.kit.proofs.Bools.{and, both, all-append}
-use Rattle.kit.proofs.Firsts.{all-of-each}
-use Rattle.law.specs.Columns.{Field, blank, isBlank, padded, cells, width, part, blankFrom, elseBlank}
+use Rattle.kit.proofs.Bools.{both, all-append}
+use Rattle.law.specs.Columns.{Field, blank, isBlank, padded, cells, width, part, elseBlank}
 use Rattle.law.specs.Writing.{Piece, blanks, laid}
 use Rattle.law.proofs.FieldsRead.{blanks-all}
 

@@ -1,18 +1,16 @@
 -- The longest file that the writer can produce has 61,141 bytes with CR alone, so each is a file of at most 65,535 bytes, and it is accepted. Assumes nothing.
-use mathlib.Core.Path.{_≡_, refl, sym, ap, _∙_, subst}
-use mathlib.Core.Bool.{Bool, true, false, cond, _||_}
-use mathlib.Core.Option.{some}
+use mathlib.Core.Path.{_≡_, ap, _∙_}
+use mathlib.Core.Bool.{Bool, true, false, cond}
 use mathlib.Core.List.{List, [], _∷_, _++_, map}
-use Prim.Native.Nat.{ℕ, zero, suc, _+_, _*_, _-_, _≤_, _<_}
-use native.Mathlib.Nat.{zero-mul, suc-mul}
+use Prim.Native.Nat.{ℕ, _+_, _*_, _-_, _≤_}
+use native.Mathlib.Nat.{suc-mul}
 use native.Mathlib.Omega.{arith}
 use lib.Dec.{eqb}
 use lib.ListN.{length, length-append}
 use Rattle.kit.specs.Lists.{flat}
 use Rattle.kit.specs.First.{AllOf}
 use Rattle.kit.proofs.Lists.{flat-append}
-use Rattle.law.specs.Sizes.{mostFile, mostPlayers, mostRounds, mostAccelerations, mostText}
-use Rattle.law.specs.Lines.{cr, endBytes}
+use Rattle.law.specs.Lines.{cr}
 use Rattle.law.specs.Text.{ended}
 use Rattle.law.specs.Accelerations.{isAcceleration}
 use Rattle.law.specs.Tournament.{Player, Tournament}

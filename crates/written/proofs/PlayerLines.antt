@@ -1,34 +1,33 @@
 -- A player's line spells that player: each entry in its round, and blanks in the rounds past the last. Assumes nothing.
 use mathlib.Core.Path.{_≡_, refl, sym, ap, ap₂, _∙_, subst}
-use mathlib.Core.Logic.{_⊎_, inl, inr}
+use mathlib.Core.Logic.{inl, inr}
 use mathlib.Core.Bool.{Bool, true, false, cond, _&&_, _||_, not}
-use mathlib.Core.Option.{Option, none, some}
-use mathlib.Core.List.{List, [], _∷_, _++_, map, append-assoc, append-nil}
+use mathlib.Core.List.{List, [], _∷_, _++_, map}
 use Prim.Native.Nat.{ℕ, zero, suc, _+_, _*_, _-_, _≤_, _<_}
 use Prim.Native.Char.{code}
 use native.Mathlib.Nat.{zero-add}
 use native.Mathlib.Omega.{arith}
 use lib.Dec.{eqb}
-use lib.ListN.{length, getD, drop, take, replicate, length-replicate}
-use borrow.Author.Tests.{eqb-true, eq-eqb, ne-eqb, not-true, eqb-false}
-use Rattle.kit.specs.Lists.{between, all, any, among, from, flat, Each}
+use lib.ListN.{length, take, replicate}
+use borrow.Author.Tests.{eqb-true, not-true}
+use Rattle.kit.specs.Lists.{all, any, among, from, flat, Each}
 use Rattle.kit.specs.First.{AllOf}
 use Rattle.kit.proofs.Bools.{clash, and, both, within, among-all}
 use Rattle.kit.proofs.Lists.{flat-append}
-use Rattle.law.specs.Sizes.{mostRounds, mostPoints, mostStart, mostRank}
+use Rattle.law.specs.Sizes.{mostRounds, mostStart, mostRank}
 use Rattle.law.specs.Lines.{allowed}
-use Rattle.law.specs.Columns.{Field, blank, isBlank, padded, cells, col, part, width, column, elseBlank, afterCode, codeField}
-use Rattle.law.specs.Fields.{SpellsNumber, SpellsPoints, SpellsNumberOrBlank, decimalFrom}
-use Rattle.law.specs.Players.{playerCode, keptField, Slot, idColumn, idField, entryColourColumn, resultColumn, roundFields, gameColours, gameResults, byeResults, slotColours, slotResults, capital, SpellsSlot, PlayerLine, startField, pointsField, rankField, everyRound, playerFields, SpellsPlayer}
+use Rattle.law.specs.Columns.{Field, blank, isBlank, cells, col, part, width, column, elseBlank, afterCode, codeField}
+use Rattle.law.specs.Fields.{SpellsNumber, SpellsPoints, SpellsNumberOrBlank}
+use Rattle.law.specs.Players.{playerCode, keptField, Slot, idColumn, idField, entryColourColumn, resultColumn, roundFields, gameColours, gameResults, byeResults, slotColours, slotResults, capital, SpellsSlot, PlayerLine, startField, pointsField, rankField, everyRound, playerFields}
 use Rattle.law.specs.Items.{player, kindOf, 001-record, SpellsItem}
 use Rattle.law.specs.Tournament.{Entry, Player, Tournament, normal, noSlot, playerOf}
 use Rattle.law.specs.Entries.{isBye, isAnother, isGame}
 use Rattle.law.specs.Lawful.{LawfulPlayer}
-use Rattle.law.specs.Writing.{Piece, blanks, filled, noughts, number, pointsText, idText, entryPieces, entriesFrom, playerLine, laid}
+use Rattle.law.specs.Writing.{Piece, blanks, filled, noughts, number, pointsText, idText, entriesFrom, playerLine}
 use Rattle.law.proofs.FieldsRead.{blanks-all}
 use Rattle.law.proofs.ColumnLaws.{one-width, column-cell}
 use Rattle.written.proofs.Laid.{Ordered, endOf, fieldsOf, cells-past, Stands, pieces-stand, laid-else, laid-long, Rising, else-past, laid-all}
-use Rattle.written.proofs.Numbers.{with-blanks, filled-long, blanks-long, noughts-long, points-text, filled-allowed, replicate-allowed, points-allowed}
+use Rattle.written.proofs.Numbers.{with-blanks, filled-long, blanks-long, points-text, filled-allowed, replicate-allowed, points-allowed}
 
 -- ---- an entry that a lawful tournament has
 pub record GoodEntry (e : Entry) : Type 0 where

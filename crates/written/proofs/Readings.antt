@@ -1,13 +1,12 @@
 -- 18 over files is the same as: no lawful tournament has this reading. So `Writes` and `Asks` permit one answer and one content of every lent cell. Assumes nothing.
-use mathlib.Core.Path.{_≡_, refl, sym, ap, _∙_, subst}
+use mathlib.Core.Path.{_≡_, sym, ap, _∙_, subst}
 use mathlib.Core.Logic.{_↔_}
-use mathlib.Core.Bool.{Bool, true, false}
-use mathlib.Core.List.{List, [], _∷_}
-use Prim.Native.Nat.{ℕ, _≤_, _<_}
+use mathlib.Core.Bool.{Bool, true}
+use mathlib.Core.List.{List}
+use Prim.Native.Nat.{ℕ}
 use native.Mathlib.Omega.{arith}
 use lib.ListN.{length, getD, replicate, length-replicate}
 use borrow.Author.Tests.{le-leb}
-use Rattle.kit.specs.First.{NoneOf, FirstIn}
 use Rattle.kit.specs.Table.{Holds}
 use Rattle.kit.proofs.Bools.{both}
 use Rattle.kit.proofs.Firsts.{first-unique, none-first}
@@ -20,11 +19,11 @@ use Rattle.law.specs.Lines.{cr}
 use Rattle.law.specs.Tournament.{Tournament}
 use Rattle.law.specs.Lawful.{Lawful}
 use Rattle.law.specs.Spelling.{SpellsFile}
-use Rattle.law.specs.Tables.{Tables, Lent, lineCells, rooms, areLong, enough, enoughLent, contentOf, linesContent, HoldAll, HoldLent, answerOf}
-use Rattle.law.specs.Refusals.{Label, too-short, too-big, at-line, of-file, incomplete, past-142, shared, unlawful, wrong-sum, LineFault, bad-byte, no-CR, too-long, not-listed, bad-field, again, too-many, Refusal, noRefusal, refusalOf, Outcome, refused, accepted, Judged}
-use Rattle.law.specs.Entries.{Law, bye-or-game, mutual-pairing, fitting-results, one-U}
+use Rattle.law.specs.Tables.{Tables, Lent, lineCells, enough, enoughLent, contentOf, linesContent, HoldAll, answerOf}
+use Rattle.law.specs.Refusals.{Label, too-short, too-big, at-line, of-file, incomplete, past-142, shared, unlawful, wrong-sum, bad-byte, no-CR, too-long, not-listed, bad-field, again, too-many, Refusal, noRefusal, refusalOf, Outcome, refused, accepted, Judged}
+use Rattle.law.specs.Entries.{bye-or-game, mutual-pairing, fitting-results, one-U}
 use Rattle.law.specs.Writing.{written, earnedBefore, accelerationFor}
-use Rattle.law.specs.Calls.{refusedAnswer, Leaves, Reads, Reading, Denial, denialOf, NoReading, writerEnd, WriterDenies, writerDenials, writtenAnswer, WriteRefused, WriteDone, Writes, write-refused, write-done, QuestionDenies, questionDenials, scoreAnswer, AskRefused, AskDone, Asks, ask-refused, ask-done}
+use Rattle.law.specs.Calls.{refusedAnswer, Leaves, Reads, Reading, Denial, denialOf, NoReading, writerEnd, WriterDenies, writtenAnswer, Writes, write-refused, write-done, QuestionDenies, scoreAnswer, Asks, ask-refused, ask-done}
 use Rattle.law.proofs.Accepts.{one-tournament}
 use Rattle.law.proofs.Judges.{accepted-lawful, accepted-long}
 use Rattle.law.proofs.ReadsOnce.{lent-enough}

@@ -1,31 +1,30 @@
 -- For each lawful tournament and each terminator the writer's bytes spell it. Assumes nothing.
 use mathlib.Core.Path.{_≡_, refl, sym, ap, ap₂, _∙_, subst}
 use mathlib.Core.Bool.{Bool, true, false, cond, _&&_, _||_, not}
-use mathlib.Core.Option.{Option, none, some}
+use mathlib.Core.Option.{some}
 use mathlib.Core.List.{List, [], _∷_, _++_, map, append-assoc, append-nil}
-use Prim.Native.Nat.{ℕ, zero, suc, _+_, _*_, _-_, _≤_, _<_}
+use Prim.Native.Nat.{ℕ, zero, suc, _+_, _-_, _≤_, _<_}
 use native.Mathlib.Omega.{arith}
-use lib.Dec.{eqb, leb, ltb}
+use lib.Dec.{eqb, ltb}
 use lib.ListN.{length, getD, replicate, length-map}
 use borrow.Author.Tests.{eqb-true, ne-eqb, le-leb, ltb-true}
-use Rattle.kit.specs.Lists.{between, all, any, among, isEmpty, atMostOne, onlyOr, flat, Each}
+use Rattle.kit.specs.Lists.{between, all, among, atMostOne, onlyOr, flat, Each}
 use Rattle.kit.specs.First.{AllOf}
 use Rattle.kit.proofs.Bools.{and, both, within}
 use Rattle.kit.proofs.Firsts.{all-of-at, all-of-each, all-of-map}
 use Rattle.kit.proofs.Lists.{flat-append}
-use Rattle.types.specs.declared.Acceleration.{Acceleration}
 use Rattle.law.specs.Sizes.{mostLine, mostRounds}
-use Rattle.law.specs.Lines.{CR, LF, allowed, End, cr, crlf, Line, endBytes, joined, hasNoCR, startsWithLF, Follows, AreLines, Lines}
+use Rattle.law.specs.Lines.{CR, LF, allowed, End, cr, crlf, Line, endBytes, joined, hasNoCR, startsWithLF, Follows, AreLines}
 use Rattle.law.specs.Heads.{initialColours}
 use Rattle.law.specs.Scoring.{stated, scoringOf}
 use Rattle.law.specs.Accelerations.{isAcceleration}
 use Rattle.law.specs.Players.{PlayerLine, Slot}
 use Rattle.law.specs.Items.{Item, text, rounds, colour, scoring, acceleration, player, SpellsItem}
-use Rattle.law.specs.Tournament.{Entry, Player, Tournament, textIn, roundsIn, colourIn, scoringIn, accelerationIn, playerIn, noSlot, slotAt, roundsOf, playerOf, tournamentOf}
-use Rattle.law.specs.Entries.{noEntry, noPlayer, playerAt, entryOf, isBye, isGame, keeps, bye-or-game}
-use Rattle.law.specs.Lawful.{KeptLine, LawfulPlayer, Sits, Lawful}
+use Rattle.law.specs.Tournament.{Player, Tournament, textIn, roundsIn, colourIn, scoringIn, accelerationIn, playerIn, noSlot, slotAt, roundsOf, playerOf, tournamentOf}
+use Rattle.law.specs.Entries.{noEntry, noPlayer, playerAt, keeps, bye-or-game}
+use Rattle.law.specs.Lawful.{KeptLine, LawfulPlayer, Lawful}
 use Rattle.law.specs.Spelling.{isSound, SpellsLine, noLine, isPast, SpellsFile}
-use Rattle.law.specs.Writing.{roundsLine, colourLine, colourLines, scoringLine, accelerationLine, playerLine, writtenLines, written}
+use Rattle.law.specs.Writing.{colourLine, colourLines, accelerationLine, playerLine, writtenLines, written}
 use Rattle.written.proofs.Heads.{text-item, rounds-item, rounds-allowed, rounds-long, colour-item, colour-allowed, scoring-item, scoring-allowed, scoring-long, acceleration-item, acceleration-allowed, acceleration-long}
 use Rattle.written.proofs.PlayerLines.{GoodEntry, entry-good, lineOf, player-item, player-allowed, player-long, player-again, slotFor}
 

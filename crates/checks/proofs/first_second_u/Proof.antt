@@ -13,13 +13,13 @@ use Rattle.checks.proofs.first_second_u.Statement.{statement}
 use Rattle.checks.proofs.first_second_u.Tie as tie
 
 abbrev Inv-loop : tie.InvT-loop
-Inv-loop results n rounds turns seen₀ k₀ seen k = Seeking (brokenCell one-U n rounds (four [] [] [] results)) turns k × Flags results k seen
+Inv-loop results n rounds end seen₀ k₀ seen k = Seeking (brokenCell one-U n rounds (four [] [] [] results)) end k × Flags results k seen
 
 abbrev μ-loop : tie.MeasureT-loop
-μ-loop results n rounds turns seen₀ k₀ seen k = turns - k
+μ-loop results n rounds end seen₀ k₀ seen k = end - k
 
-mul-turns : tie.Need-mul-turns Inv-loop μ-loop
-mul-turns c = search needs
+mul-end : tie.Need-mul-end Inv-loop μ-loop
+mul-end c = search needs
 
 loop-holds : tie.Need-loop-holds Inv-loop μ-loop
 loop-holds c = (seek-none _ _, flags-none _)
@@ -63,7 +63,7 @@ first-second-u-spec =
     (tie.spec
     Inv-loop
     μ-loop
-    mul-turns
+    mul-end
     loop-holds
     has-u-requires
     array-read-earlier

@@ -10,13 +10,13 @@ use Rattle.checks.proofs.first_unkept.Statement.{statement}
 use Rattle.checks.proofs.first_unkept.Tie as tie
 
 abbrev Inv-loop : tie.InvT-loop
-Inv-loop kind starts opponents colours results index n rounds turns k₀ k = Seeking (brokenCell (asLaw kind) n rounds (four starts opponents colours results)) turns k
+Inv-loop kind starts opponents colours results index n rounds end k₀ k = Seeking (brokenCell (asLaw kind) n rounds (four starts opponents colours results)) end k
 
 abbrev μ-loop : tie.MeasureT-loop
-μ-loop kind starts opponents colours results index n rounds turns k₀ k = turns - k
+μ-loop kind starts opponents colours results index n rounds end k₀ k = end - k
 
-mul-turns : tie.Need-mul-turns Inv-loop μ-loop
-mul-turns c = search needs
+mul-end : tie.Need-mul-end Inv-loop μ-loop
+mul-end c = search needs
 
 loop-holds : tie.Need-loop-holds Inv-loop μ-loop
 loop-holds c = seek-none _ _
@@ -52,7 +52,7 @@ first-unkept-spec =
     (tie.spec
     Inv-loop
     μ-loop
-    mul-turns
+    mul-end
     loop-holds
     is-broken-requires
     returns

@@ -8,13 +8,13 @@ use Rattle.closings.proofs.first_past.Statement.{statement}
 use Rattle.closings.proofs.first_past.Tie as tie
 
 abbrev Inv-loop : tie.InvT-loop
-Inv-loop colours n rounds turns k₀ k = Seeking (pastCell rounds colours) turns k
+Inv-loop colours n rounds end k₀ k = Seeking (pastCell rounds colours) end k
 
 abbrev μ-loop : tie.MeasureT-loop
-μ-loop colours n rounds turns k₀ k = turns - k
+μ-loop colours n rounds end k₀ k = end - k
 
-mul-turns : tie.Need-mul-turns Inv-loop μ-loop
-mul-turns c = search needs
+mul-end : tie.Need-mul-end Inv-loop μ-loop
+mul-end c = search needs
 
 loop-holds : tie.Need-loop-holds Inv-loop μ-loop
 loop-holds c = seek-none _ _
@@ -43,7 +43,7 @@ first-past-spec =
     (tie.spec
     Inv-loop
     μ-loop
-    mul-turns
+    mul-end
     loop-holds
     is-past-requires
     returns

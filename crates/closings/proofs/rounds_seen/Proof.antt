@@ -7,13 +7,13 @@ use Rattle.closings.proofs.rounds_seen.Statement.{statement}
 use Rattle.closings.proofs.rounds_seen.Tie as tie
 
 abbrev Inv-loop : tie.InvT-loop
-Inv-loop colours n turns most₀ k₀ most k = Climbing (roundSeen colours) turns k most
+Inv-loop colours n end most₀ k₀ most k = Climbing (roundSeen colours) end k most
 
 abbrev μ-loop : tie.MeasureT-loop
-μ-loop colours n turns most₀ k₀ most k = turns - k
+μ-loop colours n end most₀ k₀ most k = end - k
 
-mul-turns : tie.Need-mul-turns Inv-loop μ-loop
-mul-turns c = search needs
+mul-end : tie.Need-mul-end Inv-loop μ-loop
+mul-end c = search needs
 
 loop-holds : tie.Need-loop-holds Inv-loop μ-loop
 loop-holds c = climb-none
@@ -43,7 +43,7 @@ rounds-seen-spec =
     (tie.spec
     Inv-loop
     μ-loop
-    mul-turns
+    mul-end
     loop-holds
     round-seen-requires
     greater-requires

@@ -1,5 +1,5 @@
 -- `fields::blank_at` meets its contract. The loop's invariant: what is asked of the whole field is asked of the columns that are left. Assumes nothing.
-use mathlib.Core.Path.{_≡_, refl, sym, _∙_}
+use mathlib.Core.Path.{_≡_, sym, _∙_}
 use Prim.Native.Nat.{_≤_, _+_, _-_}
 use Rattle.kit.specs.Lists.{all}
 use Rattle.law.specs.Columns.{isBlank, cells}

@@ -1,6 +1,5 @@
 -- `fields::has_code` meets its contract: the columns are compared one by one. Assumes nothing.
-use mathlib.Core.Path.{refl, sym, _∙_}
-use borrow.Author.Tests.{eq-eqb, ne-eqb}
+use mathlib.Core.Path.{sym}
 use Rattle.fields.proofs.Turns.{code-one, code-two, code-all}
 use Rattle.fields.proofs.has_code.Statement.{statement}
 use Rattle.fields.proofs.has_code.Tie as tie

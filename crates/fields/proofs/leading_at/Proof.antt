@@ -1,10 +1,9 @@
 -- `fields::leading_at` meets its contract: the first column decides whether there are digits at all. Assumes nothing.
 use native.Mathlib.Omega.{arith}
-use mathlib.Core.Path.{_≡_, refl, sym, ap, _∙_}
-use Prim.Native.Nat.{ℕ, _≤_}
-use lib.ListN.{getD}
+use mathlib.Core.Path.{sym, ap, _∙_}
+use Prim.Native.Nat.{ℕ}
 use borrow.Author.Tests.{not-true, not-false}
-use Rattle.law.specs.Columns.{cells, blank}
+use Rattle.law.specs.Columns.{cells}
 use Rattle.law.specs.Fields.{isDigit}
 use Rattle.law.proofs.FieldsRead.{leadingOf}
 use Rattle.fields.specs.Said.{orBadField}

@@ -1,6 +1,6 @@
 -- `fields::number_at` meets its contract. The loop's invariant: what is asked of the whole field is asked of the columns that are left. Assumes nothing.
-use mathlib.Core.Path.{_≡_, refl, sym, ap, _∙_}
-use Prim.Native.Nat.{ℕ, _≤_, _+_, _-_}
+use mathlib.Core.Path.{_≡_, sym, ap, _∙_}
+use Prim.Native.Nat.{_≤_, _+_, _-_}
 use Rattle.law.specs.Columns.{cells}
 use Rattle.law.proofs.FieldsRead.{numberOf}
 use Rattle.fields.specs.Fields.{orBlank}

@@ -1,6 +1,5 @@
 -- `fields::trimmed` meets its contract. The loop's invariant: the first n bytes without their trailing blanks are what the line is without its own. Assumes nothing.
-use mathlib.Core.Path.{_≡_, refl, sym, ap, _∙_}
-use mathlib.Core.List.{List}
+use mathlib.Core.Path.{_≡_, sym, ap, _∙_}
 use Prim.Native.Nat.{ℕ, _≤_}
 use lib.ListN.{length, take}
 use lib.Seq.{take-length}

@@ -9,11 +9,11 @@ use Rattle.glances.proofs.all_lawful.Tie as tie
 returns : tie.Need-returns
 returns c = λ e. clash e
 
-answers-requires : tie.Need-answers-requires
-answers-requires c κs = tt
+answer-table-requires : tie.Need-answer-table-requires
+answer-table-requires c κs = tt
 
 keeps-rows-requires : tie.Need-keeps-rows-requires
-keeps-rows-requires c κs = ((c .before .before .if1 .left, c .before .answers .ensures), c .before .before .before .before .before .before .before .pre)
+keeps-rows-requires c κs = ((c .before .before .if1 .left, c .before .answer-table .ensures), c .before .before .before .before .before .before .before .pre)
 
 returns-2 : tie.Need-returns-2
 returns-2 c = λ e. clash e
@@ -29,4 +29,4 @@ returns-3 c =
 
 pub all-lawful-spec : {M : Type 1} → statement M
 all-lawful-spec =
-    tie.close (tie.spec returns answers-requires keeps-rows-requires returns-2 keeps-one-u-requires returns-3)
+    tie.close (tie.spec returns answer-table-requires keeps-rows-requires returns-2 keeps-one-u-requires returns-3)

@@ -14,10 +14,10 @@ use Rattle.glances.proofs.keeps_row.Statement.{statement}
 use Rattle.glances.proofs.keeps_row.Tie as tie
 
 abbrev Inv-loop : tie.InvT-loop
-Inv-loop place starts opponents colours results index opposite rounds own start j₀ j = (n : ℕ) → Indexed starts n index → KeepsRow n (four starts opponents colours results) (place .0) j
+Inv-loop place starts opponents colours results index answers rounds own start j₀ j = (n : ℕ) → Indexed starts n index → KeepsRow n (four starts opponents colours results) (place .0) j
 
 abbrev μ-loop : tie.MeasureT-loop
-μ-loop place starts opponents colours results index opposite rounds own start j₀ j = rounds - j
+μ-loop place starts opponents colours results index answers rounds own start j₀ j = rounds - j
 
 own-cell-requires : tie.Need-own-cell-requires Inv-loop μ-loop
 own-cell-requires c κs = search needs

@@ -1,5 +1,5 @@
 -- `kept_columns::fits_date` meets its contract. Assumes nothing.
-use mathlib.Core.Path.{_≡_, refl, sym, ap, _∙_}
+use mathlib.Core.Path.{sym, ap, _∙_}
 use Prim.Native.Nat.{ℕ}
 use lib.ListN.{getD}
 use Rattle.kept_columns.specs.Kept.{fitsShape, dateShape}

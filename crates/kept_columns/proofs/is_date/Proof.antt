@@ -1,6 +1,6 @@
 -- `kept_columns::is_date` meets its contract. The loop's invariant: what is asked of all columns is asked of those that are left. Assumes nothing.
 use native.Mathlib.Omega.{arith}
-use mathlib.Core.Path.{_≡_, refl, sym, ap, _∙_}
+use mathlib.Core.Path.{_≡_, sym, ap, _∙_}
 use mathlib.Core.Bool.{true, false}
 use Prim.Native.Nat.{ℕ, _≤_, _+_, _-_}
 use mathlib.Core.List.{[]}

@@ -1,5 +1,5 @@
 -- `kept_columns::is_grade` meets its contract. Assumes nothing.
-use mathlib.Core.Path.{refl, sym, _∙_}
+use mathlib.Core.Path.{refl, sym}
 use mathlib.Core.List.{[], _∷_}
 use Rattle.kept_columns.specs.Kept.{grades}
 use Rattle.fields.proofs.Keys.{key-among, key-nor-run, in-run, run-below, run-above}

@@ -4,10 +4,6 @@ use lib.Seq.{length-take-le}
 use mathlib.Core.Path.{sym}
 use Rattle.listed.proofs.print_refused.Statement.{statement}
 use Rattle.listed.proofs.print_refused.Tie as tie
-use Rattle.listed.proofs.print_refused.Reads as reads
-use Rattle.listed.proofs.print_refused.Lts as lts
-use Rattle.io.proofs.write_all.Reads as write-all-reads
-use Rattle.listing.proofs.put_refused.Reads as put-refused-reads
 
 slice-aggregate-put-refused : tie.Need-slice-aggregate-put-refused
 slice-aggregate-put-refused c = search needs

@@ -1,5 +1,4 @@
 -- `question::acceleration_for` meets its contract. Assumes nothing.
-use native.Mathlib.Omega.{arith}
 use borrow.Author.Needs.{needs}
 use Rattle.join.specs.Grid.{firstFrom}
 use Rattle.turns.proofs.Told.{told-at, told-nothing, told-under}

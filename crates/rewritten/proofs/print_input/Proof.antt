@@ -6,10 +6,6 @@ use mathlib.Core.Path.{sym}
 use native.Mathlib.Omega.{arith}
 use Rattle.rewritten.proofs.print_input.Statement.{statement}
 use Rattle.rewritten.proofs.print_input.Tie as tie
-use Rattle.rewritten.proofs.print_input.Reads as reads
-use Rattle.rewritten.proofs.print_input.Lts as lts
-use Rattle.listed.proofs.read_input.Reads as read-input-reads
-use Rattle.rewritten.proofs.print_rewritten.Reads as print-rewritten-reads
 
 slice-aggregate-read-input : tie.Need-slice-aggregate-read-input
 slice-aggregate-read-input c = search needs

@@ -5,10 +5,6 @@ use Rattle.lawful.specs.Given.{tablesOf}
 use Rattle.rewritten.proofs.Laws.{unmapped, writes-counts}
 use Rattle.rewritten.proofs.rewrite_file.Statement.{statement}
 use Rattle.rewritten.proofs.rewrite_file.Tie as tie
-use Rattle.rewritten.proofs.rewrite_file.Reads as reads
-use Rattle.rewritten.proofs.rewrite_file.Lts as lts
-use Rattle.reader.proofs.read_core.Reads as read-core-reads
-use Rattle.writer.proofs.write_core.Reads as write-core-reads
 
 slice-aggregate-read-core : tie.Need-slice-aggregate-read-core
 slice-aggregate-read-core c = search needs

@@ -1,6 +1,5 @@
 -- `rows::capital` meets its contract. Assumes nothing.
 use mathlib.Core.Path.{refl}
-use borrow.Author.Tests.{le-leb, lt-leb}
 use Rattle.fields.proofs.Keys.{run-below, run-above}
 use Rattle.kit.proofs.Bools.{in-between}
 use borrow.Author.Needs.{needs}

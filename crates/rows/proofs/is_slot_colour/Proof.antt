@@ -1,5 +1,5 @@
 -- `rows::is_slot_colour` meets its contract. Assumes nothing.
-use mathlib.Core.Path.{refl, sym, _∙_}
+use mathlib.Core.Path.{refl, sym}
 use mathlib.Core.List.{[], _∷_}
 use Rattle.law.specs.Players.{slotColours}
 use Rattle.fields.proofs.Keys.{key-among, key-other}

@@ -1,8 +1,7 @@
 -- `runs::step` meets its contract. Assumes nothing.
 use mathlib.Core.Path.{refl, sym, ap, _∙_}
-use Prim.Native.Nat.{ℕ, _-_}
+use Prim.Native.Nat.{_-_}
 use denote.Ref.{now}
-use borrow.Author.Tests.{not-true, not-false}
 use Rattle.law.specs.Items.{passed-over, kept-text, 142-record, 152-record, 162-record, 250-record, 001-record, unlisted, kindOf}
 use Rattle.join.specs.Store.{state, stepRow}
 use Rattle.records.specs.Records.{kindSays}

@@ -1,5 +1,4 @@
 -- `tables::clear` meets its contract. Assumes nothing.
-use borrow.Author.Needs.{needs}
 use Rattle.tables.proofs.clear.Statement.{statement}
 use Rattle.tables.proofs.clear.Tie as tie
 

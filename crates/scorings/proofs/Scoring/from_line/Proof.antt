@@ -1,5 +1,5 @@
 -- `scorings::Scoring::from_line` meets its contract. Assumes nothing.
-use mathlib.Core.Path.{refl, sym, _∙_}
+use mathlib.Core.Path.{sym, _∙_}
 use borrow.Author.Tests.{not-true, not-false}
 use Rattle.scorings.proofs.ScoringSlots.{not-blank, none-filled, some-filled}
 use Rattle.scorings.proofs.Scoring.from_line.Statement.{statement}
