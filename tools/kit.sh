@@ -14,13 +14,13 @@ is_stale() { [ ! -f "$1" ] || [ -n "$(find "$here/crates.txt" "$here/crates" \( 
 # by_rt FILE WORDS..: the file, made by rt with these words where it is stale.
 by_rt() {
     is_stale "$1" || return 0
-    made=$1
+    wanted=$1
     shift
-    printf '%s: making %s\n' "$command" "${made#"$here"/}" >&2
+    printf '%s: making %s\n' "$command" "${wanted#"$here"/}" >&2
     mkdir -p "$here/target" && started=$(mktemp "$here/target/.started-XXXXXX") || exit 1
-    (cd "$here" && "$rt" "$@") </dev/null >&2 || { rm -f "$started"; fail "${made#"$here"/} could not be made"; }
+    (cd "$here" && "$rt" "$@") </dev/null >&2 || { rm -f "$started"; fail "${wanted#"$here"/} could not be made"; }
     # as old as the start, so that a source saved meanwhile is seen to be newer
-    touch -r "$started" "$made"
+    touch -r "$started" "$wanted"
     rm -f "$started"
 }
 
