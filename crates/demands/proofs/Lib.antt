@@ -1,2 +1,5 @@
 pub mod WrongReaders
 pub mod ReadBack
+pub mod OfReadings
+pub mod OfWritings
+pub mod Demands

@@ -11,33 +11,19 @@ use lib.Seq.{length-take-le, getD-take, ext-getD}
 use Rattle.kit.specs.Table.{Holds}
 use Rattle.types.specs.declared.Answer.{Answer}
 use Rattle.types.specs.declared.Written.{Written}
-use Rattle.law.specs.Sizes.{mostPlayers, mostAccelerations, mostText}
 use Rattle.law.specs.Lines.{cr}
 use Rattle.law.specs.Tournament.{Tournament}
-use Rattle.law.specs.Lawful.{Lawful, noAcceleration}
-use Rattle.law.specs.Tables.{Tables, Lent, keptCells, entryCells, enoughLent, contentOf, HoldAll, answerOf}
+use Rattle.law.specs.Lawful.{Lawful}
+use Rattle.law.specs.Tables.{Tables, Lent, enoughLent, contentOf, HoldAll, answerOf}
 use Rattle.law.specs.Writing.{written}
-use Rattle.law.specs.Calls.{Reads, Denial, tables-short, no-reading, out-short, no-place, denialOf, writtenAnswer, Writes, write-refused, write-done}
+use Rattle.law.specs.Calls.{Reads, Denial, tables-short, no-reading, out-short, no-place, denialOf, writtenAnswer, WriteDone, Writes, write-refused, write-done}
 use Rattle.law.proofs.ReadsOnce.{reads-lawful}
 use Rattle.written.proofs.Spelled.{written-spells}
 use Rattle.written.proofs.Lengths.{written-long}
 use Rattle.written.proofs.Readings.{reading-has}
+use Rattle.demands.specs.Demands.{SameCells}
 
--- ---- two tables with the same listed cells
-abbrev pub Same : {A : Type 0} → A → ℕ → List A → List A → Type 0
-Same d n x y = (i : ℕ) → i < n → getD x i d ≡ getD y i d
-
-pub record SameCells (x y : Tables) : Type 0 where
-  pub starts : Same 0 mostPlayers (x .starts) (y .starts)
-  pub points : Same 0 mostPlayers (x .points) (y .points)
-  pub ranks : Same 0 mostPlayers (x .ranks) (y .ranks)
-  pub kept : Same 0 keptCells (x .kept) (y .kept)
-  pub opponents : Same 0 entryCells (x .opponents) (y .opponents)
-  pub colours : Same 0 entryCells (x .colours) (y .colours)
-  pub results : Same 0 entryCells (x .results) (y .results)
-  pub text : Same 0 mostText (x .text) (y .text)
-  pub accelerations : Same noAcceleration mostAccelerations (x .accelerations) (y .accelerations)
-
+-- ---- what holds one tournament has the same cells
 same-held : (t : Tournament) {b x c y : Tables} → HoldAll (contentOf t) b x → HoldAll (contentOf t) c y → SameCells x y
 same-held t h k =
     record {
@@ -60,7 +46,7 @@ denied out-short e = omega arith
 denied no-place e = omega arith
 
 -- the first n bytes of what holds them
-bytes-are : (bytes before after : List ℕ) → length bytes ≤ length before → Holds 0 (length bytes) (λ i. getD bytes i 0) before after → take (length bytes) after ≡ bytes
+pub bytes-are : (bytes before after : List ℕ) → length bytes ≤ length before → Holds 0 (length bytes) (λ i. getD bytes i 0) before after → take (length bytes) after ≡ bytes
 bytes-are bytes before after room h =
     let m = h .long in
     let e : length (take (length bytes) after) ≡ length bytes = length-take-le (length bytes) after (omega arith) in
@@ -74,6 +60,14 @@ module _ (a : Answer) (t : Tables) (before : List ℕ) (r : Written) (after : Li
     pub holds : HoldAll (contentOf u) t t
     pub bytes : take (r .length) after ≡ written cr u
 
+  -- the bytes had room
+  pub fits : (w : WriteDone a t before r after) → length (written cr (w .t)) ≤ length before
+  fits w = go (decLt (length before) (length (written cr (w .t))))
+    where
+      go : Dec (length before < length (written cr (w .t))) → length (written cr (w .t)) ≤ length before
+      go (yes l) = absurd (w .no-denial .1 .1 .0 (record { file = w .file; t = w .t; reading = w .reading; short = l }))
+      go (no l) = omega arith
+
   pub wrote : Writes a t before r after → r .number ≡ 0 → Wrote
   unfolding writtenAnswer
   wrote (write-refused w) e = absurd (denied (w .denial) (sym (ap (λ (x : Written). x .number) (w .says)) ∙ e))
@@ -85,12 +79,8 @@ module _ (a : Answer) (t : Tables) (before : List ℕ) (r : Written) (after : Li
         lawful = k .0;
         says = k .1 .says;
         holds = k .1 .holds;
-        bytes = ap (λ (m : ℕ). take m after) n ∙ bytes-are (written cr (w .t)) before after (room (decLt (length before) (length (written cr (w .t))))) (w .bytes);
+        bytes = ap (λ (m : ℕ). take m after) n ∙ bytes-are (written cr (w .t)) before after (fits w) (w .bytes);
       }
-    where
-      room : Dec (length before < length (written cr (w .t))) → length (written cr (w .t)) ≤ length before
-      room (yes l) = absurd (w .no-denial .1 .1 .0 (record { file = w .file; t = w .t; reading = w .reading; short = l }))
-      room (no l) = omega arith
 
   -- ---- and is read back
   pub read-back : Writes a t before r after → r .number ≡ 0 → (lent : Lent) → enoughLent lent ≡ true → (b : Answer) (x : Lent) → Reads (take (r .length) after) lent b x → (b .number ≡ 0) × (b ≡ a) × SameCells (x .tables) t

@@ -1,0 +1,71 @@
+-- The three demands of `specs/Demands`, each one theorem. Assumes nothing.
+use mathlib.Core.Path.{_≡_, refl, subst}
+use mathlib.Core.Bool.{Bool}
+use mathlib.Core.List.{[], _∷_, map}
+use native.Mathlib.Omega.{arith}
+use Rattle.kit.specs.Ascii.{ascii}
+use Rattle.law.specs.Scoring.{Scoring}
+use Rattle.law.specs.Entries.{worth}
+use Rattle.law.specs.Writing.{written}
+use Rattle.law.specs.Calls.{Cleared, tables-short, no-reading, no-place, writerEnd, QuestionDenies}
+use Rattle.law.proofs.Accepts.{one-tournament}
+use Rattle.law.proofs.ReadsOnce.{reads-once, reads-some}
+use Rattle.law.proofs.Marked.{marked}
+use Rattle.written.proofs.Spelled.{written-spells}
+use Rattle.written.proofs.Lengths.{written-long}
+use Rattle.written.proofs.Readings.{one-reading, writes-once, asks-once}
+use Rattle.demands.specs.Demands.{Demand-1, Demand-2, Demand-3}
+use Rattle.demands.proofs.ReadBack.{read-back}
+use Rattle.demands.proofs.OfReadings.{read-number, read-first, read-short, read-exactly, read-columns, accepts-exactly, read-held}
+use Rattle.demands.proofs.OfWritings.{first-short, write-number, write-first, write-untouched, write-exactly, write-short, write-bytes, write-spells, ask-number, ask-first, ask-exactly, ask-values}
+
+pub demand-1 : Demand-1
+demand-1 =
+    record {
+      reading-answered = reads-some;
+      reading-once = λ file before a after r b x q. reads-once file before a b after x r q;
+      writing-once = λ a tables before w after r v x q. writes-once a tables before w v after x r q;
+      question-once = λ a tables place round s r v q. asks-once a tables place round s v r q;
+      reading-numbers = read-number;
+      writing-numbers = write-number;
+      question-numbers = ask-number;
+      reading-first = λ file before a after r n. let k = read-first file before a after r n in (k .0, k .1, k .2);
+      writing-first = write-first;
+      question-first = ask-first;
+      refused-clears = λ file before a after r n long. subst (λ (b : Bool). Cleared b before after) long (read-first file before a after r n .3);
+      refused-untouched = write-untouched;
+      reading-short = read-short;
+      writing-short = write-short;
+      question-short = λ a tables place round s r e. ask-exactly a tables place round s r tables-short .1 (first-short (QuestionDenies a tables (place .0) round) (no-reading ∷ no-place ∷ []) e);
+    }
+
+worth-of : (s : Scoring) → map (worth s) (ascii "1W+F=DH0L-ZU")
+    ≡ s .win ∷ s .win ∷ s .win ∷ s .win ∷ s .draw ∷ s .draw ∷ s .draw ∷ s .loss ∷ s .loss ∷ s .absent ∷ s .absent ∷ s .pairing ∷ []
+unfolding worth
+worth-of s = refl
+
+pub demand-2 : Demand-2
+demand-2 =
+    record {
+      columns = read-columns;
+      worths = worth-of;
+      reading-refusals = read-exactly;
+      writing-refusals = write-exactly;
+      question-refusals = ask-exactly;
+      bytes = write-bytes;
+      values = ask-values;
+      marked-rows = marked;
+    }
+
+pub demand-3 : Demand-3
+demand-3 =
+    record {
+      accepted-exactly = accepts-exactly;
+      spells-no-other = one-tournament;
+      held = read-held;
+      held-no-other = one-reading;
+      each-spelled = λ t h. (written writerEnd t, (let l = written-long t h in omega arith), written-spells writerEnd t h);
+      writer-spells = write-spells;
+      longest = written-long;
+      read-back = read-back;
+    }
