@@ -7,7 +7,7 @@ use Rattle.kit.specs.Ascii.{ascii}
 use Rattle.law.specs.Scoring.{Scoring}
 use Rattle.law.specs.Entries.{worth}
 use Rattle.law.specs.Writing.{written}
-use Rattle.law.specs.Calls.{Cleared, tables-short, no-reading, no-place, writerEnd, QuestionDenies}
+use Rattle.law.specs.Calls.{Cleared, writerEnd}
 use Rattle.law.proofs.Accepts.{one-tournament}
 use Rattle.law.proofs.ReadsOnce.{reads-once, reads-some}
 use Rattle.law.proofs.Marked.{marked}
@@ -17,12 +17,15 @@ use Rattle.written.proofs.Readings.{one-reading, writes-once, asks-once}
 use Rattle.demands.specs.Demands.{Demand-1, Demand-2, Demand-3}
 use Rattle.demands.proofs.ReadBack.{read-back}
 use Rattle.demands.proofs.OfReadings.{read-number, read-first, read-short, read-exactly, read-columns, accepts-exactly, read-held}
-use Rattle.demands.proofs.OfWritings.{first-short, write-number, write-first, write-untouched, write-exactly, write-short, write-bytes, write-spells, ask-number, ask-first, ask-exactly, ask-values}
+use Rattle.demands.proofs.OfWritings.{write-number, write-first, write-untouched, write-exactly, write-short, write-bytes, write-spells, ask-number, ask-first, ask-exactly, ask-short, ask-values}
+use Rattle.demands.proofs.Answered.{writes-some, asks-some}
 
 pub demand-1 : Demand-1
 demand-1 =
     record {
       reading-answered = reads-some;
+      writing-answered = writes-some;
+      question-answered = asks-some;
       reading-once = λ file before a after r b x q. reads-once file before a b after x r q;
       writing-once = λ a tables before w after r v x q. writes-once a tables before w v after x r q;
       question-once = λ a tables place round s r v q. asks-once a tables place round s v r q;
@@ -36,7 +39,7 @@ demand-1 =
       refused-untouched = write-untouched;
       reading-short = read-short;
       writing-short = write-short;
-      question-short = λ a tables place round s r e. ask-exactly a tables place round s r tables-short .1 (first-short (QuestionDenies a tables (place .0) round) (no-reading ∷ no-place ∷ []) e);
+      question-short = ask-short;
     }
 
 worth-of : (s : Scoring) → map (worth s) (ascii "1W+F=DH0L-ZU")

@@ -48,8 +48,16 @@ denial-number no-reading = omega arith
 denial-number out-short = omega arith
 denial-number no-place = omega arith
 
-pub first-short : (P : Denial → Type 0) (after : List Denial) → P tables-short → FirstIn P (tables-short ∷ after) tables-short
-first-short P after h = record { before = []; after = after; stands = refl; none-before = tt; holds = h }
+-- the first of three: 1, 18 and the call's own
+module _ (P : Denial → Type 0) (last : Denial) where
+  pub short-first : P tables-short → FirstIn P (tables-short ∷ no-reading ∷ last ∷ []) tables-short
+  short-first h = record { before = []; after = no-reading ∷ last ∷ []; stands = refl; none-before = tt; holds = h }
+
+  pub unread-first : (P tables-short → ⊥) → P no-reading → FirstIn P (tables-short ∷ no-reading ∷ last ∷ []) no-reading
+  unread-first n h = record { before = tables-short ∷ []; after = last ∷ []; stands = refl; none-before = (n, tt); holds = h }
+
+  pub last-first : (P tables-short → ⊥) → (P no-reading → ⊥) → P last → FirstIn P (tables-short ∷ no-reading ∷ last ∷ []) last
+  last-first n m h = record { before = tables-short ∷ no-reading ∷ []; after = []; stands = refl; none-before = (n, (m, tt)); holds = h }
 
 -- ---- bytes over what stood there
 laid-over : (bytes before after : List ℕ) → length bytes ≤ length before → Holds 0 (length bytes) (λ i. getD bytes i 0) before after → after ≡ bytes ++ drop (length bytes) before
@@ -102,7 +110,7 @@ module _ (a : Answer) (tables : Tables) (before : List ℕ) (w : Written) (after
   pub write-short : Writes a tables before w after → enough tables ≡ false → (w ≡ writtenAnswer (refusal 1 0 0) 0) × (after ≡ before)
   unfolding writtenAnswer
   write-short h e =
-      let s = write-exactly h tables-short .1 (first-short Denies (no-reading ∷ out-short ∷ []) e) in
+      let s = write-exactly h tables-short .1 (short-first Denies out-short e) in
       (s, write-untouched h (let n = ap (λ (v : Written). v .number) s in omega arith))
 
   pub write-bytes : Writes a tables before w after → w .number ≡ 0 → (file : List ℕ) (t : Tournament) → Reading a tables file t
@@ -175,6 +183,9 @@ module _ (a : Answer) (tables : Tables) (place : Place) (round : ℕ) (s : Score
         absurd (omega arith),
     λ f. absurd (none-first Denied (r .no-denial) f),
   )
+
+  pub ask-short : Asks a tables place round s → enough tables ≡ false → s ≡ scoreAnswer (refusal 1 0 0) 0 0
+  ask-short h e = ask-exactly h tables-short .1 (short-first Denied no-place e)
 
   pub ask-values : Asks a tables place round s → s .number ≡ 0 → (file : List ℕ) (t : Tournament) → Reading a tables file t
       → s ≡ scoreAnswer noRefusal (earnedBefore t (place .0) round) (accelerationFor t (place .0) round)

@@ -45,6 +45,8 @@ pub record Demand-1 : Type 0 where
   -- "Every byte string gets an answer": there is one, and one only, with one content of every lent cell. "No call trusts that its caller looked first": nothing is asked
   -- of file, answer, tables, output, place and round, here or by a `requires` of the three calls
   pub reading-answered : (file : List ℕ) (before : Lent) → (a : Answer) × (after : Lent) × Reads file before a after
+  pub writing-answered : (a : Answer) (tables : Tables) (before : List ℕ) → (w : Written) × (after : List ℕ) × Writes a tables before w after
+  pub question-answered : (a : Answer) (tables : Tables) (place : Place) (round : ℕ) → (s : Score) × Asks a tables place round s
   pub reading-once : EveryReading (λ file before a after. (b : Answer) (x : Lent) → Reads file before b x → (a ≡ b) × (after ≡ x))
   pub writing-once : EveryWriting (λ a tables before w after. (v : Written) (x : List ℕ) → Writes a tables before v x → (w ≡ v) × (after ≡ x))
   pub question-once : EveryQuestion (λ a tables place round s. (v : Score) → Asks a tables place round v → s ≡ v)

@@ -1,1 +1,1 @@
-// Proofs alone: what the calls' relations rule out, and what they promise together. No function.
+// The three demands on the calls, stated in specs and proved, each as one theorem; and wrong readers that the calls' relations rule out. No function.
