@@ -1,22 +1,16 @@
 -- The three demands of `specs/Demands`, each one theorem. Assumes nothing.
-use mathlib.Core.Path.{_≡_, refl, subst}
+use mathlib.Core.Path.{refl, subst}
 use mathlib.Core.Bool.{Bool}
-use mathlib.Core.List.{[], _∷_, map}
-use native.Mathlib.Omega.{arith}
-use Rattle.kit.specs.Ascii.{ascii}
-use Rattle.law.specs.Scoring.{Scoring}
 use Rattle.law.specs.Entries.{worth}
-use Rattle.law.specs.Writing.{written}
-use Rattle.law.specs.Calls.{Cleared, writerEnd}
+use Rattle.law.specs.Calls.{Cleared}
 use Rattle.law.proofs.Accepts.{one-tournament}
 use Rattle.law.proofs.ReadsOnce.{reads-once, reads-some}
 use Rattle.law.proofs.Marked.{marked}
-use Rattle.written.proofs.Spelled.{written-spells}
 use Rattle.written.proofs.Lengths.{written-long}
 use Rattle.written.proofs.Readings.{one-reading, writes-once, asks-once}
 use Rattle.demands.specs.Demands.{Demand-1, Demand-2, Demand-3}
 use Rattle.demands.proofs.ReadBack.{read-back}
-use Rattle.demands.proofs.OfReadings.{read-number, read-first, read-short, read-exactly, read-columns, accepts-exactly, read-held}
+use Rattle.demands.proofs.OfReadings.{read-number, read-first, read-short, read-exactly, read-columns, accepts-exactly, read-held, spelled, read-each}
 use Rattle.demands.proofs.OfWritings.{write-number, write-first, write-untouched, write-exactly, write-short, write-bytes, write-spells, ask-number, ask-first, ask-exactly, ask-short, ask-values}
 use Rattle.demands.proofs.Answered.{writes-some, asks-some}
 
@@ -42,16 +36,12 @@ demand-1 =
       question-short = ask-short;
     }
 
-worth-of : (s : Scoring) → map (worth s) (ascii "1W+F=DH0L-ZU")
-    ≡ s .win ∷ s .win ∷ s .win ∷ s .win ∷ s .draw ∷ s .draw ∷ s .draw ∷ s .loss ∷ s .loss ∷ s .absent ∷ s .absent ∷ s .pairing ∷ []
-unfolding worth
-worth-of s = refl
-
 pub demand-2 : Demand-2
+unfolding worth
 demand-2 =
     record {
       columns = read-columns;
-      worths = worth-of;
+      worths = λ s. refl;
       reading-refusals = read-exactly;
       writing-refusals = write-exactly;
       question-refusals = ask-exactly;
@@ -67,7 +57,8 @@ demand-3 =
       spells-no-other = one-tournament;
       held = read-held;
       held-no-other = one-reading;
-      each-spelled = λ t h. (written writerEnd t, (let l = written-long t h in omega arith), written-spells writerEnd t h);
+      each-spelled = spelled;
+      each-read = read-each;
       writer-spells = write-spells;
       longest = written-long;
       read-back = read-back;

@@ -21,14 +21,17 @@ use Rattle.law.specs.Lawful.{Lawful}
 use Rattle.law.specs.Spelling.{SpellsLine, SpellsFile}
 use Rattle.law.specs.Tables.{Tables, Lent, enoughLent, Content, contentOf, linesContent, HoldAll, HoldLent, answerOf}
 use Rattle.law.specs.Refusals.{Label, too-short, too-big, at-line, of-file, lineFaultNumber, lineFaults, fileFaultNumber, fileFaults, linesOf, Refusal, refusal, refusalOf, Outcome, refused, accepted, Refused, Judged}
-use Rattle.law.specs.Calls.{refusedAnswer, Cleared, Leaves, Reads, Reading}
+use Rattle.law.specs.Writing.{written}
+use Rattle.law.specs.Calls.{refusedAnswer, Cleared, Leaves, Reads, Reading, writerEnd}
 use Rattle.law.proofs.Cut.{one-lines}
 use Rattle.law.proofs.LinesRead.{tested-line}
 use Rattle.law.proofs.Faults.{lines-spelled}
 use Rattle.law.proofs.Accepts.{tested-file, one-tournament}
 use Rattle.law.proofs.Judges.{one-outcome, accepted-lawful, accepted-long}
-use Rattle.law.proofs.ReadsOnce.{reads-lawful}
+use Rattle.law.proofs.ReadsOnce.{reads-some, reads-lawful}
 use Rattle.law.proofs.Edges.{short-untouched}
+use Rattle.written.proofs.Spelled.{written-spells}
+use Rattle.written.proofs.Lengths.{written-long}
 use Rattle.written.proofs.Readings.{accepted-read}
 
 -- ---- 1 to 17
@@ -185,3 +188,14 @@ read-held file before a after r n t s = go (r .outcome) (r .judged) (r .leaves)
             spells = s;
           },
         )
+
+-- ---- each lawful tournament is read from what the writer puts out for it
+pub spelled : (t : Tournament) → Lawful t → (file : List ℕ) × (length file ≤ mostFile) × SpellsFile file t
+spelled t h = (written writerEnd t, (let l = written-long t h in omega arith), written-spells writerEnd t h)
+
+pub read-each : (t : Tournament) → Lawful t → (before : Lent) → enoughLent before ≡ true → (file : List ℕ) × (a : Answer) × (after : Lent) × Reads file before a after × Reading a (after .tables) file t
+read-each t h before long =
+    let s = spelled t h in
+    let r = reads-some (s .0) before in
+    let n = accepts-exactly (s .0) before (r .0) (r .1) (r .2) long (s .1) .1 (t, s .2, h) in
+    (s .0, r .0, r .1, r .2, read-held (s .0) before (r .0) (r .1) (r .2) n t (s .2) .2)

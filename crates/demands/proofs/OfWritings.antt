@@ -26,7 +26,7 @@ use Rattle.law.specs.Calls.{Reading, Denial, tables-short, no-reading, out-shor
 use Rattle.law.proofs.TwoReadings.{one-tournament-a-reading}
 use Rattle.written.proofs.Spelled.{written-spells}
 use Rattle.written.proofs.Readings.{reading-has, one-reading}
-use Rattle.demands.proofs.ReadBack.{bytes-are, fits, wrote}
+use Rattle.demands.proofs.ReadBack.{denial-number, bytes-are, fits, wrote}
 
 -- ---- the denials of writer and question, by their numbers
 denialBy : ℕ → Denial
@@ -41,12 +41,6 @@ denial-again no-place = refl
 
 same-denial : (d e : Denial) → denialOf d .number ≡ denialOf e .number → d ≡ e
 same-denial d e h = sym (denial-again d) ∙ ap denialBy h ∙ denial-again e
-
-denial-number : (d : Denial) → 1 ≤ denialOf d .number
-denial-number tables-short = omega arith
-denial-number no-reading = omega arith
-denial-number out-short = omega arith
-denial-number no-place = omega arith
 
 -- the first of three: 1, 18 and the call's own
 module _ (P : Denial → Type 0) (last : Denial) where

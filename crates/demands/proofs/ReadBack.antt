@@ -39,11 +39,11 @@ same-held t h k =
     }
 
 -- ---- a writing that refuses nothing has written the bytes of the tournament
-denied : (d : Denial) → denialOf d .number ≡ 0 → ⊥
-denied tables-short e = omega arith
-denied no-reading e = omega arith
-denied out-short e = omega arith
-denied no-place e = omega arith
+pub denial-number : (d : Denial) → 1 ≤ denialOf d .number
+denial-number tables-short = omega arith
+denial-number no-reading = omega arith
+denial-number out-short = omega arith
+denial-number no-place = omega arith
 
 -- the first n bytes of what holds them
 pub bytes-are : (bytes before after : List ℕ) → length bytes ≤ length before → Holds 0 (length bytes) (λ i. getD bytes i 0) before after → take (length bytes) after ≡ bytes
@@ -70,7 +70,10 @@ module _ (a : Answer) (t : Tables) (before : List ℕ) (r : Written) (after : Li
 
   pub wrote : Writes a t before r after → r .number ≡ 0 → Wrote
   unfolding writtenAnswer
-  wrote (write-refused w) e = absurd (denied (w .denial) (sym (ap (λ (x : Written). x .number) (w .says)) ∙ e))
+  wrote (write-refused w) e =
+      let n = ap (λ (x : Written). x .number) (w .says) in
+      let m = denial-number (w .denial) in
+      absurd (omega arith)
   wrote (write-done w) e =
       let k = reading-has a t (w .file) (w .t) (w .reading) in
       let n : r .length ≡ length (written cr (w .t)) = ap (λ (x : Written). x .length) (w .says) in

@@ -1,6 +1,6 @@
 -- The three demands, sentence by sentence, as what the three calls promise: the module to read first. Above each field stands its sentence. `Reads`, `Writes` and `Asks` are
--- all that the contracts of `trf_read`, `trf_write` and `trf_ask` say (`crates/face/src/lib.rt`); these and the other words below are defined in `crates/law/specs`.
--- Definitions alone: `proofs/Demands` proves each demand, as one theorem.
+-- all that the contracts of `trf_read`, `trf_write` and `trf_ask` say (`crates/face/src/lib.rt`); these and the other words below are defined in `crates/law/specs`, the
+-- marked rows in `crates/law/proofs/Marked`. Definitions alone: `proofs/Demands` proves each demand, as one theorem.
 use mathlib.Core.Path.{_≡_}
 use mathlib.Core.Logic.{_↔_}
 use mathlib.Core.Bool.{true, false}
@@ -54,7 +54,7 @@ pub record Demand-1 : Type 0 where
   pub reading-numbers : EveryReading (λ file before a after. a .number ≤ 17)
   pub writing-numbers : EveryWriting (λ a tables before w after. among (w .number) (0 ∷ 1 ∷ 18 ∷ 19 ∷ []) ≡ true)
   pub question-numbers : EveryQuestion (λ a tables place round s. among (s .number) (0 ∷ 1 ∷ 18 ∷ 20 ∷ []) ≡ true)
-  -- "with line and round, by a fixed order": those of the first fault, in the order of `labels`, `writerDenials` and `questionDenials`
+  -- "with line and round, by a fixed order": those of the first fault, in the order of `labels` (`Refused`), `writerDenials` and `questionDenials`
   pub reading-first : EveryReading (λ file before a after. 1 ≤ a .number → (x : Refusal) × Refused (enoughLent before) file x × (a ≡ refusedAnswer x))
   pub writing-first : EveryWriting (λ a tables before w after. 1 ≤ w .number → (d : Denial) × FirstIn (WriterDenies a tables (length before)) writerDenials d × (w ≡ writtenAnswer (denialOf d) 0))
   pub question-first : EveryQuestion (λ a tables place round s. 1 ≤ s .number → (d : Denial) × FirstIn (QuestionDenies a tables (place .0) round) questionDenials d × (s ≡ scoreAnswer (denialOf d) 0 0))
@@ -113,8 +113,9 @@ pub record Demand-3 : Type 0 where
   pub held : EveryReading (λ file before a after. a .number ≡ 0 → (t : Tournament) → SpellsFile file t → (a ≡ answerOf t) × HoldAll (contentOf t) (before .tables) (after .tables) × Reading a (after .tables) file t)
   -- and of no other: two files with one reading spell one tournament
   pub held-no-other : (a : Answer) (tables : Tables) (f g : List ℕ) (t u : Tournament) → Reading a tables f t → Reading a tables g u → t ≡ u
-  -- "For each lawful tournament": each has a spelling that the box reads
+  -- "For each lawful tournament": each has a spelling of a size that the box carries, and so a reading, into any tables that are long enough
   pub each-spelled : (t : Tournament) → Lawful t → (file : List ℕ) × (length file ≤ mostFile) × SpellsFile file t
+  pub each-read : (t : Tournament) → Lawful t → (before : Lent) → enoughLent before ≡ true → (file : List ℕ) × (a : Answer) × (after : Lent) × Reads file before a after × Reading a (after .tables) file t
   -- "what the writer produces, given room, is one of its spellings": room for at most 61,141 bytes
   pub writer-spells : EveryWriting (λ a tables before w after. (file : List ℕ) (t : Tournament) → Reading a tables file t → length (written writerEnd t) ≤ length before
       → (w .number ≡ 0) × SpellsFile (take (w .length) after) t)
