@@ -13,13 +13,14 @@ ghost use Rattle.law.specs.Entries.{bye-or-game, mutual-pairing, fitting-result
 ghost use Rattle.law.specs.Tables.{entryCells};
 ghost use Rattle.join.specs.Grid.{firstFrom};
 ghost use Rattle.join.specs.Check.{placeAt, roundAt, isGameBy, hasUAt, keepsCell, brokenCell};
-ghost use Rattle.turns.specs.Found.{asFound};
+ghost use Rattle.turns.specs.Found.{asFoundTurn};
 ghost use Rattle.index.specs.Index.{asPlaced, Indexed, IsIndex};
 ghost use Rattle.checks.specs.Results.{entry, isPair};
 ghost use Rattle.checks.specs.Laws.{asLaw, four, Long};
 use index::Placed;
 use index::START_CELLS;
-use turns::Found;
+use turns::FoundTurn;
+use turns::Turn;
 use types::MOST_ROUNDS;
 use types::Place;
 use types::StartNumber;
@@ -199,7 +200,7 @@ fn keeps_at(
 // Whether the entry of a turn breaks such a law.
 fn is_broken(
     kind: LawKind,
-    k: usize,
+    turn: Turn,
     rounds: u32,
     starts: &[u32],
     opponents: &[u32],
@@ -208,12 +209,12 @@ fn is_broken(
     index: &[u8; START_CELLS],
 ) -> bool
     requires { ⌜ (kind ≡ LawKind.OneU → ⊥) ⌝ }
-    requires { ⌜ k < entryCells ⌝ }
+    requires { ⌜ turn .0 < entryCells ⌝ }
     requires { ⌜ Long (now starts) (now opponents) (now colours) (now results) × IsIndex (now index) ⌝ }
-    ensures { λ r. ⌜ ((n : ℕ) → Indexed (now (starts .entry)) n (now (index .entry)) → r ≡ brokenCell (asLaw kind) n rounds (four (now (starts .entry)) (now (opponents .entry)) (now (colours .entry)) (now (results .entry))) k) ⌝ }
+    ensures { λ r. ⌜ ((n : ℕ) → Indexed (now (starts .entry)) n (now (index .entry)) → r ≡ brokenCell (asLaw kind) n rounds (four (now (starts .entry)) (now (opponents .entry)) (now (colours .entry)) (now (results .entry))) (turn .0)) ⌝ }
 {
-    let place = turns::place_at(k);
-    let round = turns::round_at(k);
+    let place = turns::place_at(turn);
+    let round = turns::round_at(turn);
     if rounds < round {
         return false;
     }
@@ -239,52 +240,63 @@ fn first_unkept(
     index: &[u8; START_CELLS],
     n: usize,
     rounds: u32,
-) -> Found
+) -> FoundTurn
     requires { ⌜ (kind ≡ LawKind.OneU → ⊥) ⌝ }
     requires { ⌜ Long (now starts) (now opponents) (now colours) (now results) × Indexed (now starts) n (now index) ⌝ }
-    ensures { λ r. ⌜ r ≡ asFound (firstFrom (brokenCell (asLaw kind) n rounds (four (now (starts .entry)) (now (opponents .entry)) (now (colours .entry)) (now (results .entry)))) 0 (n * mostRounds)) ⌝ }
+    ensures { λ r. ⌜ r ≡ asFoundTurn (firstFrom (brokenCell (asLaw kind) n rounds (four (now (starts .entry)) (now (opponents .entry)) (now (colours .entry)) (now (results .entry)))) 0 (n * mostRounds)) ⌝ }
 {
     let end = n * MOST_ROUNDS;
     let mut k = 0;
     while k < end {
-        if is_broken(kind, k, rounds, starts, opponents, colours, results, index) {
-            return Found::At(k);
+        let turn = Turn(k);
+        if is_broken(
+            kind,
+            turn,
+            rounds,
+            starts,
+            opponents,
+            colours,
+            results,
+            index,
+        ) {
+            return FoundTurn::At(turn);
         }
         k += 1;
     }
-    Found::Nothing
+    FoundTurn::Nothing
 }
 
 // Whether the result of a turn is U.
-fn has_u(results: &[u8], k: usize) -> bool
-    requires { ⌜ (k < entryCells) × (entryCells ≤ length (now results)) ⌝ }
-    ensures { λ r. ⌜ r ≡ hasUAt (now (results .entry)) (placeAt k) (roundAt k) ⌝ }
+fn has_u(results: &[u8], turn: Turn) -> bool
+    requires { ⌜ (turn .0 < entryCells) × (entryCells ≤ length (now results)) ⌝ }
+    ensures { λ r. ⌜ r ≡ hasUAt (now (results .entry)) (placeAt (turn .0)) (roundAt (turn .0)) ⌝ }
 {
-    let place = turns::place_at(k);
-    let round = turns::round_at(k);
+    let place = turns::place_at(turn);
+    let round = turns::round_at(turn);
     let i = tables::cell_of(place, round);
     results[i] == b'U'
 }
 
 // The first turn with a U in a round in which an earlier player has one: a flag for each round says whether one had.
-fn first_second_u(results: &[u8], n: usize, rounds: u32) -> Found
+fn first_second_u(results: &[u8], n: usize, rounds: u32) -> FoundTurn
     requires { ⌜ (n ≤ mostPlayers) × (entryCells ≤ length (now results)) ⌝ }
-    ensures { λ r. ⌜ ((starts opponents colours : List ℕ) → r ≡ asFound (firstFrom (brokenCell one-U n rounds (four starts opponents colours (now (results .entry)))) 0 (n * mostRounds))) ⌝ }
+    ensures { λ r. ⌜ ((starts opponents colours : List ℕ) → r ≡ asFoundTurn (firstFrom (brokenCell one-U n rounds (four starts opponents colours (now (results .entry)))) 0 (n * mostRounds))) ⌝ }
 {
     let end = n * MOST_ROUNDS;
     let mut seen = [false; MOST_ROUNDS];
     let mut k = 0;
     while k < end {
-        let here = has_u(results, k);
+        let turn = Turn(k);
+        let here = has_u(results, turn);
         let flag = k % MOST_ROUNDS;
         let earlier = seen[flag];
-        if (turns::round_at(k) <= rounds) & (here & earlier) {
-            return Found::At(k);
+        if (turns::round_at(turn) <= rounds) & (here & earlier) {
+            return FoundTurn::At(turn);
         }
         seen[flag] = earlier | here;
         k += 1;
     }
-    Found::Nothing
+    FoundTurn::Nothing
 }
 
 // The first turn, player by player and each round by round, whose entry breaks a law.
@@ -297,9 +309,9 @@ pub fn first_broken(
     index: &[u8; START_CELLS],
     n: usize,
     rounds: u32,
-) -> Found
+) -> FoundTurn
     requires { ⌜ Long (now starts) (now opponents) (now colours) (now results) × Indexed (now starts) n (now index) ⌝ }
-    ensures { λ r. ⌜ r ≡ asFound (firstFrom (brokenCell (asLaw kind) n rounds (four (now (starts .entry)) (now (opponents .entry)) (now (colours .entry)) (now (results .entry)))) 0 (n * mostRounds)) ⌝ }
+    ensures { λ r. ⌜ r ≡ asFoundTurn (firstFrom (brokenCell (asLaw kind) n rounds (four (now (starts .entry)) (now (opponents .entry)) (now (colours .entry)) (now (results .entry)))) 0 (n * mostRounds)) ⌝ }
 {
     if let LawKind::OneU = kind {
         return first_second_u(results, n, rounds);

@@ -1,4 +1,4 @@
-// What is asked of the cells after the last line without the index: the number of rounds, the first cell past them, the closing pass, what a player earned and
+// What is asked of the cells after the last line without looking a start number up: the number of rounds, the first cell past them, the closing pass, what a player earned and
 // the first whose points are not that sum; and the first acceleration record that shares with an earlier one. Promised: each answers what the pure definition
 // of join says. A search is one loop over its cells, player by player and each round by round; the closing pass has a function for one player.
 ghost use mathlib.Core.Path.{_≡_};
@@ -14,33 +14,38 @@ ghost use Rattle.law.specs.Accelerations as accelerations;
 ghost use Rattle.law.specs.Tables.{entryCells};
 ghost use Rattle.join.specs.Grid.{firstFrom};
 ghost use Rattle.join.specs.Check.{isSeen, roundSeen, roundsSeen, pastCell, sharedRecord, closing, worthBy, sumAt, wrongSum};
-ghost use Rattle.turns.specs.Found.{asFound};
+ghost use Rattle.index.specs.Index.{asPlaced};
+ghost use Rattle.turns.specs.Found.{asFoundTurn, asFoundRecord};
 ghost use Rattle.closings.specs.Values.{areSmall};
 ghost use Rattle.closings.specs.Closing.{ClosesRow};
-use turns::Found;
+use index::Placed;
+use turns::FoundRecord;
+use turns::FoundTurn;
+use turns::RecordNumber;
+use turns::Turn;
 use types::Acceleration;
 use types::MOST_ACCELERATIONS;
 use types::MOST_ROUNDS;
 use types::Place;
 
 // Whether the cell of a turn holds anything.
-fn is_seen(colours: &[u8], k: usize) -> bool
-    requires { ⌜ (k < entryCells) × (entryCells ≤ length (now colours)) ⌝ }
-    ensures { λ r. ⌜ r ≡ isSeen (now (colours .entry)) k ⌝ }
+fn is_seen(colours: &[u8], turn: Turn) -> bool
+    requires { ⌜ (turn .0 < entryCells) × (entryCells ≤ length (now colours)) ⌝ }
+    ensures { λ r. ⌜ r ≡ isSeen (now (colours .entry)) (turn .0) ⌝ }
 {
-    let place = turns::place_at(k);
-    let round = turns::round_at(k);
+    let place = turns::place_at(turn);
+    let round = turns::round_at(turn);
     let i = tables::cell_of(place, round);
     colours[i] != 0
 }
 
 // The round of a turn whose cell holds anything, or 0.
-fn round_seen(colours: &[u8], k: usize) -> u32
-    requires { ⌜ (k < entryCells) × (entryCells ≤ length (now colours)) ⌝ }
-    ensures { λ r. ⌜ r ≡ roundSeen (now (colours .entry)) k ⌝ }
+fn round_seen(colours: &[u8], turn: Turn) -> u32
+    requires { ⌜ (turn .0 < entryCells) × (entryCells ≤ length (now colours)) ⌝ }
+    ensures { λ r. ⌜ r ≡ roundSeen (now (colours .entry)) (turn .0) ⌝ }
 {
-    if is_seen(colours, k) {
-        return turns::round_at(k);
+    if is_seen(colours, turn) {
+        return turns::round_at(turn);
     }
     0
 }
@@ -63,36 +68,37 @@ pub fn rounds_seen(colours: &[u8], n: usize) -> u32
     let mut most = 0;
     let mut k = 0;
     while k < end {
-        most = greater(most, round_seen(colours, k));
+        most = greater(most, round_seen(colours, Turn(k)));
         k += 1;
     }
     most
 }
 
 // Whether a turn is past the rounds that there are and its cell holds anything.
-fn is_past(rounds: u32, colours: &[u8], k: usize) -> bool
-    requires { ⌜ (k < entryCells) × (entryCells ≤ length (now colours)) ⌝ }
-    ensures { λ r. ⌜ r ≡ pastCell rounds (now (colours .entry)) k ⌝ }
+fn is_past(rounds: u32, colours: &[u8], turn: Turn) -> bool
+    requires { ⌜ (turn .0 < entryCells) × (entryCells ≤ length (now colours)) ⌝ }
+    ensures { λ r. ⌜ r ≡ pastCell rounds (now (colours .entry)) (turn .0) ⌝ }
 {
-    let seen = is_seen(colours, k);
-    let round = turns::round_at(k);
+    let seen = is_seen(colours, turn);
+    let round = turns::round_at(turn);
     (rounds < round) & seen
 }
 
 // The first such turn of n players.
-pub fn first_past(colours: &[u8], n: usize, rounds: u32) -> Found
+pub fn first_past(colours: &[u8], n: usize, rounds: u32) -> FoundTurn
     requires { ⌜ (n ≤ mostPlayers) × (entryCells ≤ length (now colours)) ⌝ }
-    ensures { λ r. ⌜ r ≡ asFound (firstFrom (pastCell rounds (now (colours .entry))) 0 (n * mostRounds)) ⌝ }
+    ensures { λ r. ⌜ r ≡ asFoundTurn (firstFrom (pastCell rounds (now (colours .entry))) 0 (n * mostRounds)) ⌝ }
 {
     let end = n * MOST_ROUNDS;
     let mut k = 0;
     while k < end {
-        if is_past(rounds, colours, k) {
-            return Found::At(k);
+        let turn = Turn(k);
+        if is_past(rounds, colours, turn) {
+            return FoundTurn::At(turn);
         }
         k += 1;
     }
-    Found::Nothing
+    FoundTurn::Nothing
 }
 
 // Whether two ranges have a number in common.
@@ -112,10 +118,11 @@ fn shares(a: Acceleration, b: Acceleration) -> bool
 }
 
 // Whether a record shares with an earlier one.
-fn shares_earlier(records: [Acceleration; MOST_ACCELERATIONS], j: usize) -> bool
-    requires { ⌜ j < mostAccelerations ⌝ }
-    ensures { λ r. ⌜ r ≡ sharedRecord records j ⌝ }
+fn shares_earlier(records: [Acceleration; MOST_ACCELERATIONS], number: RecordNumber) -> bool
+    requires { ⌜ number .0 < mostAccelerations ⌝ }
+    ensures { λ r. ⌜ r ≡ sharedRecord records (number .0) ⌝ }
 {
+    let j = number.0;
     let mut found = false;
     let mut i = 0;
     while i < j {
@@ -126,18 +133,19 @@ fn shares_earlier(records: [Acceleration; MOST_ACCELERATIONS], j: usize) -> bool
 }
 
 // The first of n records that shares with an earlier one.
-pub fn first_shared(records: [Acceleration; MOST_ACCELERATIONS], n: usize) -> Found
+pub fn first_shared(records: [Acceleration; MOST_ACCELERATIONS], n: usize) -> FoundRecord
     requires { ⌜ n ≤ mostAccelerations ⌝ }
-    ensures { λ r. ⌜ r ≡ asFound (firstFrom (sharedRecord records) 0 n) ⌝ }
+    ensures { λ r. ⌜ r ≡ asFoundRecord (firstFrom (sharedRecord records) 0 n) ⌝ }
 {
     let mut j = 0;
     while j < n {
-        if shares_earlier(records, j) {
-            return Found::At(j);
+        let number = RecordNumber(j);
+        if shares_earlier(records, number) {
+            return FoundRecord::At(number);
         }
         j += 1;
     }
-    Found::Nothing
+    FoundRecord::Nothing
 }
 
 // What a cell of a round becomes.
@@ -264,16 +272,17 @@ pub fn first_wrong_sum(
     values: [u32; 6],
     n: usize,
     rounds: u32,
-) -> Found
+) -> Placed
     requires { ⌜ (n ≤ mostPlayers) × (rounds ≤ mostRounds) × (mostPlayers ≤ length (now points)) × (entryCells ≤ length (now results)) × (areSmall values ≡ true) ⌝ }
-    ensures { λ r. ⌜ r ≡ asFound (firstFrom (wrongSum values (now (points .entry)) (now (results .entry)) rounds) 0 n) ⌝ }
+    ensures { λ r. ⌜ r ≡ asPlaced (firstFrom (wrongSum values (now (points .entry)) (now (results .entry)) rounds) 0 n) ⌝ }
 {
     let mut p = 0;
     while p < n {
-        if is_wrong_sum(points, results, values, Place(p as u32), rounds) {
-            return Found::At(p);
+        let place = Place(p as u32);
+        if is_wrong_sum(points, results, values, place, rounds) {
+            return Placed::At(place);
         }
         p += 1;
     }
-    Found::Nothing
+    Placed::Nobody
 }

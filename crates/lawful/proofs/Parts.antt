@@ -1,7 +1,7 @@
 -- The tests of the parts, put together to the test of a reading. Assumes nothing.
 use mathlib.Core.Path.{_≡_, refl, sym, _∙_}
 use mathlib.Core.Bool.{Bool, true, false, _&&_, _||_, not}
-use mathlib.Core.Option.{Option, none}
+use mathlib.Core.Option.{Option, none, some}
 use mathlib.Core.List.{List}
 use Prim.Native.Nat.{ℕ, _*_, _≤_, _<_}
 use native.Mathlib.Omega.{arith}
@@ -26,10 +26,6 @@ use Rattle.law.specs.Tables.{Tables, keptCells}
 use Rattle.join.specs.Grid.{firstFrom}
 use Rattle.join.specs.Store.{placeOf}
 use Rattle.join.specs.Check.{brokenCell, wrongSum, sharedRecord}
-use Rattle.turns.specs.declared.Found.{Found}
-use Rattle.turns.specs.declared.Found.the-variants.{At, Nothing}
-use Rattle.turns.specs.Found.{asFound}
-use Rattle.turns.proofs.Told.{told-at, told-nothing}
 use Rattle.index.specs.Index.{IndexOf}
 use Rattle.index.proofs.Indexes.{index-zeros}
 use Rattle.closings.specs.Values.{areSmall}
@@ -105,12 +101,11 @@ module _ (n : ℕ) (starts points ranks kept : List ℕ) {x y z w : Bool} where
       (λ h. (((h .starts-rest, h .points-rest), h .ranks-rest), h .kept-rest)) (told-both (told-both (told-both a b) c) d)
 
 -- ---- a search
-module _ (o : Option ℕ) {found : Found} (e : found ≡ asFound o) where
-  pub found-none : found ≡ Nothing → Told (o ≡ none) true
-  found-none h = record { sound = λ _. told-nothing o e h; complete = λ _. refl }
+pub found-none : {o : Option ℕ} → o ≡ none → Told (o ≡ none) true
+found-none h = record { sound = λ _. h; complete = λ _. refl }
 
-  pub found-not : {k : ℕ} → found ≡ At k → Told (o ≡ none) false
-  found-not h = told-no (λ z. no-some (sym z ∙ told-at o e h))
+pub found-not : {o : Option ℕ} {k : ℕ} → o ≡ some k → Told (o ≡ none) false
+found-not h = told-no (λ z. no-some (sym z ∙ h))
 
 -- ---- entries, text, records
 pub entries-rest : (n R : ℕ) (opponents colours results : List ℕ) {x y z : Bool} → Told (UnusedEntries n R opponents) x → Told (UnusedEntries n R colours) y → Told (UnusedEntries n R results) z

@@ -2,7 +2,7 @@
 // unused cells included, and no table is changed.
 ghost use mathlib.Core.Path.{_≡_};
 ghost use mathlib.Core.Bool.{true, _||_};
-ghost use mathlib.Core.Option.{Option, none};
+ghost use mathlib.Core.Option.{none};
 ghost use Prim.Native.Nat.{ℕ, _*_, _≤_, _<_};
 ghost use lib.Dec.{eqb};
 ghost use lib.ListN.{length, getD};
@@ -12,8 +12,7 @@ ghost use Rattle.law.specs.Heads.{initialColours};
 ghost use Rattle.law.specs.Entries.{Law};
 ghost use Rattle.law.specs.Tables.{keptCells, entryCells, enough};
 ghost use Rattle.join.specs.Grid.{firstFrom};
-ghost use Rattle.join.specs.Check.{brokenCell, wrongSum};
-ghost use Rattle.turns.specs.Found.{asFound};
+ghost use Rattle.join.specs.Check.{sharedRecord, brokenCell, wrongSum};
 ghost use Rattle.index.specs.Index.{Indexed};
 ghost use Rattle.closings.specs.Values.{areSmall};
 ghost use Rattle.checks.specs.Laws.{asLaw, four, Long};
@@ -22,8 +21,10 @@ ghost use Rattle.readings.specs.Good.{GoodAnswer, GoodReading};
 ghost use Rattle.lawful.specs.Given.{tablesOf};
 ghost use Rattle.lawful.specs.Parts.{Own, OwnRest, EntriesRest, TextIs, RecordsAre, Together};
 use checks::LawKind;
+use index::Placed;
 use index::START_CELLS;
-use turns::Found;
+use turns::FoundRecord;
+use turns::FoundTurn;
 use types::Acceleration;
 use types::Answer;
 use types::KEPT;
@@ -120,11 +121,12 @@ fn text_is(text: &[u8], n: usize) -> bool
     kept & rest
 }
 
-// Whether a search found nothing.
-fn is_nothing(found: Found) -> bool
-    ensures { λ r. ⌜ ((o : Option ℕ) → found ≡ asFound o → Told (o ≡ none) r) ⌝ }
+// Whether none of n records shares with an earlier one.
+fn are_apart(records: [Acceleration; MOST_ACCELERATIONS], n: usize) -> bool
+    requires { ⌜ n ≤ mostAccelerations ⌝ }
+    ensures { λ r. ⌜ Told (firstFrom (sharedRecord records) 0 n ≡ none) r ⌝ }
 {
-    let Found::Nothing = found else {
+    let FoundRecord::Nothing = closings::first_shared(records, n) else {
         return false;
     };
     true
@@ -136,7 +138,7 @@ fn records_are(records: [Acceleration; MOST_ACCELERATIONS], n: usize) -> bool
     ensures { λ r. ⌜ Told (RecordsAre n records) r ⌝ }
 {
     let each = held::accelerations_are(records, n);
-    let apart = is_nothing(closings::first_shared(records, n));
+    let apart = are_apart(records, n);
     let rest = held::records_unused(records, n);
     each & apart & rest
 }
@@ -155,7 +157,11 @@ fn keeps(
     requires { ⌜ Long (now starts) (now opponents) (now colours) (now results) × Indexed (now starts) n (now index) ⌝ }
     ensures { λ r. ⌜ Told (firstFrom (brokenCell (asLaw kind) n rounds (four (now (starts .entry)) (now (opponents .entry)) (now (colours .entry)) (now (results .entry)))) 0 (n * mostRounds) ≡ none) r ⌝ }
 {
-    is_nothing(checks::first_broken(kind, starts, opponents, colours, results, index, n, rounds))
+    let found = checks::first_broken(kind, starts, opponents, colours, results, index, n, rounds);
+    let FoundTurn::Nothing = found else {
+        return false;
+    };
+    true
 }
 
 // Whether they keep the four laws. One look tells it of most tables.
@@ -190,7 +196,10 @@ fn sums_are(points: &[u32], results: &[u8], values: [u32; VALUES], n: usize, rou
     requires { ⌜ (n ≤ mostPlayers) × (rounds ≤ mostRounds) × (mostPlayers ≤ length (now points)) × (entryCells ≤ length (now results)) × (areSmall values ≡ true) ⌝ }
     ensures { λ r. ⌜ Told (firstFrom (wrongSum values (now (points .entry)) (now (results .entry)) rounds) 0 n ≡ none) r ⌝ }
 {
-    is_nothing(closings::first_wrong_sum(points, results, values, n, rounds))
+    let Placed::Nobody = closings::first_wrong_sum(points, results, values, n, rounds) else {
+        return false;
+    };
+    true
 }
 
 // Whether n players have start numbers that differ, lawful entries and the sums of what these earned.

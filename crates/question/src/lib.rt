@@ -12,11 +12,12 @@ ghost use Rattle.law.specs.Refusals.{refusal};
 ghost use Rattle.law.specs.Writing.{pointsOr0};
 ghost use Rattle.law.specs.Calls.{scoreAnswer, Asks};
 ghost use Rattle.join.specs.Grid.{firstFrom};
-ghost use Rattle.turns.specs.Found.{asFound};
+ghost use Rattle.turns.specs.Found.{asFoundRecord};
 ghost use Rattle.types.specs.declared.Acceleration as lent;
 ghost use Rattle.lawful.specs.Given.{tablesOf, Given};
 ghost use Rattle.question.specs.Covering.{coversAt};
-use turns::Found;
+use turns::FoundRecord;
+use turns::RecordNumber;
 use types::Acceleration;
 use types::Answer;
 use types::LineNumber;
@@ -40,18 +41,18 @@ fn first_covering(
     n: usize,
     start: StartNumber,
     round: u32,
-) -> Found
+) -> FoundRecord
     requires { ⌜ n ≤ mostAccelerations ⌝ }
-    ensures { λ r. ⌜ r ≡ asFound (firstFrom (coversAt (start .0) round records) 0 n) ⌝ }
+    ensures { λ r. ⌜ r ≡ asFoundRecord (firstFrom (coversAt (start .0) round records) 0 n) ⌝ }
 {
     let mut j = 0;
     while j < n {
         if covers(records[j], start, round) {
-            return Found::At(j);
+            return FoundRecord::At(RecordNumber(j));
         }
         j += 1;
     }
-    Found::Nothing
+    FoundRecord::Nothing
 }
 
 // The points that n records add for a start number in a round: 0 if none covers it.
@@ -64,9 +65,10 @@ fn acceleration_for(
     requires { ⌜ n ≤ mostAccelerations ⌝ }
     ensures { λ r. ⌜ r ≡ pointsOr0 (first (law.covers (start .0) round) (take n records)) ⌝ }
 {
-    let Found::At(j) = first_covering(records, n, start, round) else {
+    let FoundRecord::At(number) = first_covering(records, n, start, round) else {
         return 0;
     };
+    let j = number.0;
     let a = records[j];
     a.points
 }

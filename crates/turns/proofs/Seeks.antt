@@ -2,16 +2,14 @@
 -- ends. Assumes nothing.
 use mathlib.Core.Path.{_≡_, refl, sym, ap, _∙_}
 use mathlib.Core.Bool.{Bool, true, false, _||_}
-use mathlib.Core.Option.{none, some}
+use mathlib.Core.Option.{Option, none, some}
 use Prim.Native.Nat.{ℕ, suc, _+_, _-_, _≤_, _<_, max}
 use native.Mathlib.Nat.{le-antisymm}
 use native.Mathlib.Numerals.{add-one}
 use native.Mathlib.Omega.{arith}
 use Rattle.join.specs.Grid.{firstFrom, mostFrom, sumFrom, someBelow}
-use Rattle.turns.specs.declared.Found.the-variants.{At, Nothing}
-use Rattle.turns.specs.Found.{asFound}
 
--- the first that passes: i are passed, and what is left comes to the whole
+-- the first that passes: i are passed, and what is left comes to the whole; `tell` makes the answer of it: a turn, a player or a record
 pub record Seeking (f : ℕ → Bool) (n i : ℕ) : Type 0 where
   pub upto : i ≤ n
   pub rest : firstFrom f i (n - i) ≡ firstFrom f 0 n
@@ -21,12 +19,12 @@ module _ (f : ℕ → Bool) (n : ℕ) where
   seek-none = record { upto = omega arith; rest = ap (firstFrom f 0) (omega arith) }
 
 module _ {f : ℕ → Bool} {n i : ℕ} (s : Seeking f n i) where
-  pub seek-hit : i < n → f i ≡ true → At i ≡ asFound (firstFrom f 0 n)
+  pub seek-hit : {A : Type 0} (tell : Option ℕ → A) → i < n → f i ≡ true → tell (some i) ≡ tell (firstFrom f 0 n)
   unfolding firstFrom
-  seek-hit l h =
+  seek-hit tell l h =
       let e : n - i ≡ suc (n - (i + 1)) = omega arith in
       let r : firstFrom f i (n - i) ≡ some i = rw (e, h) in
-      ap asFound (sym r ∙ s .rest)
+      ap tell (sym r ∙ s .rest)
 
   pub seek-more : i < n → f i ≡ false → Seeking f n (i + 1)
   unfolding firstFrom
@@ -35,12 +33,12 @@ module _ {f : ℕ → Bool} {n i : ℕ} (s : Seeking f n i) where
       let r : firstFrom f i (n - i) ≡ firstFrom f (i + 1) (n - (i + 1)) = rw (e, h) in
       record { upto = omega arith; rest = sym r ∙ s .rest }
 
-  pub seek-end : n ≤ i → Nothing ≡ asFound (firstFrom f 0 n)
+  pub seek-end : {A : Type 0} (tell : Option ℕ → A) → n ≤ i → tell none ≡ tell (firstFrom f 0 n)
   unfolding firstFrom
-  seek-end l =
+  seek-end tell l =
       let e : n - i ≡ 0 = omega arith in
       let r : firstFrom f i (n - i) ≡ none = rw e in
-      ap asFound (sym r ∙ s .rest)
+      ap tell (sym r ∙ s .rest)
 
 -- the greatest so far, m
 pub record Climbing (f : ℕ → ℕ) (n i m : ℕ) : Type 0 where

@@ -7,22 +7,34 @@ ghost use Rattle.join.specs.Check.{placeAt, roundAt};
 use types::MOST_ROUNDS;
 use types::Place;
 
-// The turn, the player or the record that a search found.
-pub enum Found {
-    At(usize),
+// A turn of a search, from 0: no place, and no cell.
+pub struct Turn(pub usize);
+
+// An acceleration record's number in file order, from 0.
+pub struct RecordNumber(pub usize);
+
+// The turn that a search found.
+pub enum FoundTurn {
+    At(Turn),
     Nothing,
 }
 
-// The place and the round of turn k.
-pub fn place_at(k: usize) -> Place
-    requires { ⌜ k < entryCells ⌝ }
-    ensures { λ r. ⌜ r .0 ≡ placeAt k ⌝ }
-{
-    Place((k / MOST_ROUNDS) as u32)
+// The acceleration record that a search found.
+pub enum FoundRecord {
+    At(RecordNumber),
+    Nothing,
 }
 
-pub fn round_at(k: usize) -> u32
-    ensures { λ r. ⌜ r ≡ roundAt k ⌝ }
+// The place and the round of a turn.
+pub fn place_at(turn: Turn) -> Place
+    requires { ⌜ turn .0 < entryCells ⌝ }
+    ensures { λ r. ⌜ r .0 ≡ placeAt (turn .0) ⌝ }
 {
-    (k % MOST_ROUNDS) as u32 + 1
+    Place((turn.0 / MOST_ROUNDS) as u32)
+}
+
+pub fn round_at(turn: Turn) -> u32
+    ensures { λ r. ⌜ r ≡ roundAt (turn .0) ⌝ }
+{
+    (turn.0 % MOST_ROUNDS) as u32 + 1
 }

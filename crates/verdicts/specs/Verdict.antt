@@ -7,8 +7,9 @@ use Rattle.law.specs.Entries.{bye-or-game, mutual-pairing, fitting-results, one
 use Rattle.law.specs.Refusals.{Refusal}
 use Rattle.join.specs.Store.{Nine}
 use Rattle.join.specs.Check.{brokenBy}
-use Rattle.turns.specs.declared.Found.{Found}
-use Rattle.turns.specs.declared.Found.the-variants.{At}
+use Rattle.turns.specs.declared.Turn.{Turn}
+use Rattle.turns.specs.declared.FoundTurn.{FoundTurn}
+use Rattle.turns.specs.declared.FoundTurn.the-variants.{At}
 use Rattle.checks.specs.declared.LawKind.{LawKind}
 use Rattle.checks.specs.declared.LawKind.the-variants.{ByeOrGame, Mutual, Fitting, OneU}
 use Rattle.verdicts.specs.declared.Verdict.{Verdict}
@@ -28,6 +29,6 @@ lawNumber OneU = 15
 abbrev pub unlawfulIn : ℕ → ℕ → Nine → Option Refusal
 unlawfulIn n R y = orElse (brokenBy bye-or-game n R y) (orElse (brokenBy mutual-pairing n R y) (orElse (brokenBy fitting-results n R y) (brokenBy one-U n R y)))
 
--- what was found is below n
-abbrev pub FoundUnder : Found → ℕ → Type 0
-FoundUnder found n = (k : ℕ) → found ≡ At k → k < n
+-- the turn that was found is below n
+abbrev pub FoundUnder : FoundTurn → ℕ → Type 0
+FoundUnder found n = (turn : Turn) → found ≡ At turn → turn .0 < n

@@ -11,19 +11,20 @@ ghost use Rattle.law.specs.Refusals.{refusal, fileFaultNumber, past-142, shared
 ghost use Rattle.join.specs.Grid.{firstFrom};
 ghost use Rattle.join.specs.Check.{pastCell, sharedRecord, wrongSum, brokenCell, atPlayer};
 ghost use Rattle.join.specs.Store.{Nine};
-ghost use Rattle.turns.specs.Found.{asFound};
+ghost use Rattle.turns.specs.Found.{asFoundTurn};
 ghost use Rattle.index.specs.Index.{Indexed};
 ghost use Rattle.closings.specs.Values.{areSmall};
 ghost use Rattle.checks.specs.Laws.{Long, asLaw, four};
 ghost use Rattle.verdicts.specs.Verdict.{asVerdict, lawNumber, unlawfulIn, FoundUnder};
 use checks::LawKind;
+use index::Placed;
 use index::START_CELLS;
-use turns::Found;
+use turns::FoundRecord;
+use turns::FoundTurn;
 use types::Acceleration;
 use types::LineNumber;
 use types::MOST_ACCELERATIONS;
 use types::MOST_PLAYERS;
-use types::Place;
 
 // A refusal by its number, line and round; zeros where there is none.
 pub struct Verdict {
@@ -43,15 +44,15 @@ fn nothing() -> Verdict
 }
 
 // The refusal of a turn: its player's line, and its round.
-fn at_turn(number: u32, lines: &[u32], found: Found) -> Verdict
+fn at_turn(number: u32, lines: &[u32], found: FoundTurn) -> Verdict
     requires { ⌜ (lineCells ≤ length (now lines)) × FoundUnder found entryCells ⌝ }
-    ensures { λ r. ⌜ ((o : Option ℕ) → found ≡ asFound o → r ≡ asVerdict (to (atPlayer number (now (lines .entry))) o)) ⌝ }
+    ensures { λ r. ⌜ ((o : Option ℕ) → found ≡ asFoundTurn o → r ≡ asVerdict (to (atPlayer number (now (lines .entry))) o)) ⌝ }
 {
-    let Found::At(k) = found else {
+    let FoundTurn::At(turn) = found else {
         return nothing();
     };
-    let place = turns::place_at(k);
-    let round = turns::round_at(k);
+    let place = turns::place_at(turn);
+    let round = turns::round_at(turn);
     let i = tables::own_cell(place);
     Verdict {
         number,
@@ -76,12 +77,12 @@ pub fn sharing(records: [Acceleration; MOST_ACCELERATIONS], n: usize, lines: &[u
     requires { ⌜ (n ≤ mostAccelerations) × (lineCells ≤ length (now lines)) ⌝ }
     ensures { λ r. ⌜ r ≡ asVerdict (to (λ j. refusal (fileFaultNumber shared) (getD (now (lines .entry)) (mostPlayers + j) 0) 0) (firstFrom (sharedRecord records) 0 n)) ⌝ }
 {
-    let Found::At(j) = closings::first_shared(records, n) else {
+    let FoundRecord::At(number) = closings::first_shared(records, n) else {
         return nothing();
     };
     Verdict {
         number: 17,
-        line: LineNumber(lines[MOST_PLAYERS + j]),
+        line: LineNumber(lines[MOST_PLAYERS + number.0]),
         round: 0,
     }
 }
@@ -99,10 +100,10 @@ pub fn wrong_points(
     requires { ⌜ lineCells ≤ length (now lines) ⌝ }
     ensures { λ r. ⌜ r ≡ asVerdict (to (λ p. refusal (fileFaultNumber wrong-sum) (getD (now (lines .entry)) p 0) 0) (firstFrom (wrongSum values (now (points .entry)) (now (results .entry)) rounds) 0 n)) ⌝ }
 {
-    let Found::At(p) = closings::first_wrong_sum(points, results, values, n, rounds) else {
+    let Placed::At(place) = closings::first_wrong_sum(points, results, values, n, rounds) else {
         return nothing();
     };
-    let i = tables::own_cell(Place(p as u32));
+    let i = tables::own_cell(place);
     Verdict {
         number: 16,
         line: LineNumber(lines[i]),

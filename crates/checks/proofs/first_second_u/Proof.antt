@@ -5,7 +5,7 @@ use mathlib.Core.List.{[]}
 use Prim.Native.Nat.{_-_}
 use Rattle.law.specs.Entries.{one-U}
 use Rattle.join.specs.Check.{brokenCell}
-use Rattle.turns.specs.Found.{asFound}
+use Rattle.turns.specs.Found.{asFoundTurn}
 use Rattle.checks.specs.Laws.{four}
 use Rattle.turns.proofs.Seeks.{Seeking, seek-none, seek-hit, seek-more, seek-end}
 use Rattle.checks.proofs.Flags.{Flags, flags-none, flags-more, second-is, u-alone}
@@ -37,7 +37,7 @@ returns : tie.Need-returns Inv-loop μ-loop
 returns c = λ starts opponents colours.
     let x = c .before .before .before .before .loop .inv in
     let second = second-is (x .1) _ _ [] [] [] (c .before .round-at .ensures) (c .before .before .has-u .ensures) in
-    seek-hit (x .0) (c .before .before .before .loop-test .taken) (sym second ∙ c .if1 .taken) ∙ ap asFound (u-alone _ _ _ starts opponents colours _)
+    seek-hit (x .0) asFoundTurn (c .before .before .before .loop-test .taken) (sym second ∙ c .if1 .taken) ∙ ap asFoundTurn (u-alone _ _ _ starts opponents colours _)
 
 array-write-seen : tie.Need-array-write-seen Inv-loop μ-loop
 array-write-seen c = search needs
@@ -55,7 +55,7 @@ loop-again c =
     (seek-more (x .0) (c .before .before .before .loop-test .taken) (sym second ∙ c .if1 .left), flags-more (x .1) (c .before .before .has-u .ensures))
 
 returns-2 : tie.Need-returns-2 Inv-loop μ-loop
-returns-2 c = λ starts opponents colours. seek-end (c .before .loop .inv .0) (c .loop-test .left) ∙ ap asFound (u-alone _ _ _ starts opponents colours _)
+returns-2 c = λ starts opponents colours. seek-end (c .before .loop .inv .0) asFoundTurn (c .loop-test .left) ∙ ap asFoundTurn (u-alone _ _ _ starts opponents colours _)
 
 pub first-second-u-spec : {M : Type 1} → statement M
 first-second-u-spec =

@@ -5,6 +5,7 @@ use Prim.Native.Nat.{_-_}
 use native.Mathlib.Omega.{arith}
 use Rattle.join.specs.Check.{brokenCell}
 use Rattle.checks.specs.Laws.{asLaw, four}
+use Rattle.turns.specs.Found.{asFoundTurn}
 use Rattle.turns.proofs.Seeks.{Seeking, seek-none, seek-hit, seek-more, seek-end}
 use Rattle.checks.proofs.first_unkept.Statement.{statement}
 use Rattle.checks.proofs.first_unkept.Tie as tie
@@ -30,7 +31,7 @@ is-broken-requires c κs =
 returns : tie.Need-returns Inv-loop μ-loop
 returns c =
     let start : tie.Start Inv-loop μ-loop = c .before .before .before .before .before .before .before .before in
-    seek-hit (c .before .before .before .loop .inv) (c .before .before .loop-test .taken) (sym (c .before .is-broken .ensures (start .args .n) (start .pre .1 .1)) ∙ c .if1 .taken)
+    seek-hit (c .before .before .before .loop .inv) asFoundTurn (c .before .before .loop-test .taken) (sym (c .before .is-broken .ensures (start .args .n) (start .pre .1 .1)) ∙ c .if1 .taken)
 
 add-k : tie.Need-add-k Inv-loop μ-loop
 add-k c = search needs
@@ -44,7 +45,7 @@ loop-again c =
     seek-more (c .before .before .before .loop .inv) (c .before .before .loop-test .taken) (sym (c .before .is-broken .ensures (start .args .n) (start .pre .1 .1)) ∙ c .if1 .left)
 
 returns-2 : tie.Need-returns-2 Inv-loop μ-loop
-returns-2 c = seek-end (c .before .loop .inv) (c .loop-test .left)
+returns-2 c = seek-end (c .before .loop .inv) asFoundTurn (c .loop-test .left)
 
 pub first-unkept-spec : {M : Type 1} → statement M
 first-unkept-spec =

@@ -3,6 +3,7 @@ use borrow.Author.Needs.{needs}
 use mathlib.Core.Path.{sym, _∙_}
 use Prim.Native.Nat.{_-_}
 use Rattle.join.specs.Check.{pastCell}
+use Rattle.turns.specs.Found.{asFoundTurn}
 use Rattle.turns.proofs.Seeks.{Seeking, seek-none, seek-hit, seek-more, seek-end}
 use Rattle.closings.proofs.first_past.Statement.{statement}
 use Rattle.closings.proofs.first_past.Tie as tie
@@ -23,7 +24,7 @@ is-past-requires : tie.Need-is-past-requires Inv-loop μ-loop
 is-past-requires c κs = search needs
 
 returns : tie.Need-returns Inv-loop μ-loop
-returns c = seek-hit (c .before .before .before .loop .inv) (c .before .before .loop-test .taken) (sym (c .before .is-past .ensures) ∙ c .if1 .taken)
+returns c = seek-hit (c .before .before .before .loop .inv) asFoundTurn (c .before .before .loop-test .taken) (sym (c .before .is-past .ensures) ∙ c .if1 .taken)
 
 add-k : tie.Need-add-k Inv-loop μ-loop
 add-k c = search needs
@@ -35,7 +36,7 @@ loop-again : tie.Need-loop-again Inv-loop μ-loop
 loop-again c = seek-more (c .before .before .before .loop .inv) (c .before .before .loop-test .taken) (sym (c .before .is-past .ensures) ∙ c .if1 .left)
 
 returns-2 : tie.Need-returns-2 Inv-loop μ-loop
-returns-2 c = seek-end (c .before .loop .inv) (c .loop-test .left)
+returns-2 c = seek-end (c .before .loop .inv) asFoundTurn (c .loop-test .left)
 
 pub first-past-spec : {M : Type 1} → statement M
 first-past-spec =

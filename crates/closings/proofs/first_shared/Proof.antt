@@ -3,6 +3,7 @@ use borrow.Author.Needs.{needs}
 use mathlib.Core.Path.{sym, _∙_}
 use Prim.Native.Nat.{_-_}
 use Rattle.join.specs.Check.{sharedRecord}
+use Rattle.turns.specs.Found.{asFoundRecord}
 use Rattle.turns.proofs.Seeks.{Seeking, seek-none, seek-hit, seek-more, seek-end}
 use Rattle.closings.proofs.first_shared.Statement.{statement}
 use Rattle.closings.proofs.first_shared.Tie as tie
@@ -20,7 +21,7 @@ shares-earlier-requires : tie.Need-shares-earlier-requires Inv-loop μ-loop
 shares-earlier-requires c κs = search needs
 
 returns : tie.Need-returns Inv-loop μ-loop
-returns c = seek-hit (c .before .before .before .loop .inv) (c .before .before .loop-test .taken) (sym (c .before .shares-earlier .ensures) ∙ c .if1 .taken)
+returns c = seek-hit (c .before .before .before .loop .inv) asFoundRecord (c .before .before .loop-test .taken) (sym (c .before .shares-earlier .ensures) ∙ c .if1 .taken)
 
 add-j : tie.Need-add-j Inv-loop μ-loop
 add-j c = search needs
@@ -32,7 +33,7 @@ loop-again : tie.Need-loop-again Inv-loop μ-loop
 loop-again c = seek-more (c .before .before .before .loop .inv) (c .before .before .loop-test .taken) (sym (c .before .shares-earlier .ensures) ∙ c .if1 .left)
 
 returns-2 : tie.Need-returns-2 Inv-loop μ-loop
-returns-2 c = seek-end (c .before .loop .inv) (c .loop-test .left)
+returns-2 c = seek-end (c .before .loop .inv) asFoundRecord (c .loop-test .left)
 
 pub first-shared-spec : {M : Type 1} → statement M
 first-shared-spec =

@@ -3,6 +3,7 @@ use borrow.Author.Needs.{needs}
 use mathlib.Core.Path.{sym, _∙_}
 use Prim.Native.Nat.{_-_}
 use Rattle.join.specs.Check.{wrongSum}
+use Rattle.index.specs.Index.{asPlaced}
 use Rattle.turns.proofs.Seeks.{Seeking, seek-none, seek-hit, seek-more, seek-end}
 use Rattle.closings.proofs.first_wrong_sum.Statement.{statement}
 use Rattle.closings.proofs.first_wrong_sum.Tie as tie
@@ -23,7 +24,7 @@ is-wrong-sum-requires : tie.Need-is-wrong-sum-requires Inv-loop μ-loop
 is-wrong-sum-requires c κs = search needs
 
 returns : tie.Need-returns Inv-loop μ-loop
-returns c = seek-hit (c .before .before .before .loop .inv) (c .before .before .loop-test .taken) (sym (c .before .is-wrong-sum .ensures) ∙ c .if1 .taken)
+returns c = seek-hit (c .before .before .before .loop .inv) asPlaced (c .before .before .loop-test .taken) (sym (c .before .is-wrong-sum .ensures) ∙ c .if1 .taken)
 
 add-p : tie.Need-add-p Inv-loop μ-loop
 add-p c = search needs
@@ -35,7 +36,7 @@ loop-again : tie.Need-loop-again Inv-loop μ-loop
 loop-again c = seek-more (c .before .before .before .loop .inv) (c .before .before .loop-test .taken) (sym (c .before .is-wrong-sum .ensures) ∙ c .if1 .left)
 
 returns-2 : tie.Need-returns-2 Inv-loop μ-loop
-returns-2 c = seek-end (c .before .loop .inv) (c .loop-test .left)
+returns-2 c = seek-end (c .before .loop .inv) asPlaced (c .loop-test .left)
 
 pub first-wrong-sum-spec : {M : Type 1} → statement M
 first-wrong-sum-spec =

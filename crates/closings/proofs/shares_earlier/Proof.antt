@@ -10,10 +10,10 @@ use Rattle.closings.proofs.shares_earlier.Statement.{statement}
 use Rattle.closings.proofs.shares_earlier.Tie as tie
 
 abbrev Inv-loop : tie.InvT-loop
-Inv-loop j records found₀ i₀ found i = Asking (λ k. shares (getD records j noAcceleration) (getD records k noAcceleration)) j i found
+Inv-loop records j found₀ i₀ found i = Asking (λ k. shares (getD records j noAcceleration) (getD records k noAcceleration)) j i found
 
 abbrev μ-loop : tie.MeasureT-loop
-μ-loop j records found₀ i₀ found i = j - i
+μ-loop records j found₀ i₀ found i = j - i
 
 loop-holds : tie.Need-loop-holds Inv-loop μ-loop
 loop-holds c = ask-none

@@ -7,19 +7,16 @@ use Rattle.lawful.proofs.records_are.Tie as tie
 accelerations-are-requires : tie.Need-accelerations-are-requires
 accelerations-are-requires c κs = search needs
 
-first-shared-requires : tie.Need-first-shared-requires
-first-shared-requires c κs = search needs
-
-is-nothing-requires : tie.Need-is-nothing-requires
-is-nothing-requires c κs = search needs
+are-apart-requires : tie.Need-are-apart-requires
+are-apart-requires c κs = search needs
 
 records-unused-requires : tie.Need-records-unused-requires
 records-unused-requires c κs = search needs
 
 returns : tie.Need-returns
 returns c =
-    let a = c .before .before .before .before .args in
-    records-told (a .n) (a .records) (c .before .before .before .accelerations-are .ensures) (c .before .is-nothing .ensures _ (c .before .before .first-shared .ensures)) (c .records-unused .ensures)
+    let a = c .before .before .before .args in
+    records-told (a .n) (a .records) (c .before .before .accelerations-are .ensures) (c .before .are-apart .ensures) (c .records-unused .ensures)
 
 pub records-are-spec : {M : Type 1} → statement M
-records-are-spec = tie.close (tie.spec accelerations-are-requires first-shared-requires is-nothing-requires records-unused-requires returns)
+records-are-spec = tie.close (tie.spec accelerations-are-requires are-apart-requires records-unused-requires returns)

@@ -2,6 +2,7 @@
 use mathlib.Core.Path.{sym, _∙_}
 use Prim.Native.Nat.{_-_}
 use borrow.Author.Needs.{needs}
+use Rattle.turns.specs.Found.{asFoundRecord}
 use Rattle.turns.proofs.Seeks.{Seeking, seek-none, seek-hit, seek-more, seek-end}
 use Rattle.question.specs.Covering.{coversAt}
 use Rattle.question.proofs.first_covering.Statement.{statement}
@@ -26,7 +27,7 @@ covers-requires : tie.Need-covers-requires Inv-loop μ-loop
 covers-requires c κs = search needs
 
 returns : tie.Need-returns Inv-loop μ-loop
-returns c = seek-hit (c .before .before .before .before .loop .inv) (c .before .before .before .loop-test .taken) (sym (c .before .covers .ensures) ∙ c .if1 .taken)
+returns c = seek-hit (c .before .before .before .before .loop .inv) asFoundRecord (c .before .before .before .loop-test .taken) (sym (c .before .covers .ensures) ∙ c .if1 .taken)
 
 add-j : tie.Need-add-j Inv-loop μ-loop
 add-j c = search needs
@@ -38,7 +39,7 @@ loop-again : tie.Need-loop-again Inv-loop μ-loop
 loop-again c = seek-more (c .before .before .before .before .loop .inv) (c .before .before .before .loop-test .taken) (sym (c .before .covers .ensures) ∙ c .if1 .left)
 
 returns-2 : tie.Need-returns-2 Inv-loop μ-loop
-returns-2 c = seek-end (c .before .loop .inv) (c .loop-test .left)
+returns-2 c = seek-end (c .before .loop .inv) asFoundRecord (c .loop-test .left)
 
 pub first-covering-spec : {M : Type 1} → statement M
 first-covering-spec = tie.close (tie.spec Inv-loop μ-loop loop-holds mul-covers array-copy-out-covers covers-requires returns add-j loop-less loop-again returns-2)

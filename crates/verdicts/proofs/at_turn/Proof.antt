@@ -4,7 +4,7 @@ use native.Mathlib.Omega.{arith}
 use denote.Ref.{now}
 use borrow.Author.Needs.{needs}
 use Rattle.join.specs.Check.{atPlayer}
-use Rattle.turns.proofs.Told.{told-at, told-nothing}
+use Rattle.turns.proofs.Told.{told-turn}
 use Rattle.verdicts.proofs.Parts.{nothing-found, turn-found}
 use Rattle.verdicts.proofs.at_turn.Statement.{statement}
 use Rattle.verdicts.proofs.at_turn.Tie as tie
@@ -21,7 +21,7 @@ nothing-requires c κs = search needs
 returns : tie.Need-returns
 returns c =
     let a = c .before .before .before .before .args in
-    λ o e. nothing-found (atPlayer (a .number) (now (a .lines))) o (told-nothing o e (c .before .enum-told .given .1)) (c .nothing .ensures)
+    λ o e. nothing-found (atPlayer (a .number) (now (a .lines))) o (told-turn o e (c .before .enum-told .given .1)) (c .nothing .ensures)
 
 place-at-requires : tie.Need-place-at-requires
 place-at-requires c κs = c .before .before .before .before .pre .1 _ (c .before .found .given .1)
@@ -44,7 +44,7 @@ shared-slice-read-t10 c = search needs
 returns-2 : tie.Need-returns-2
 returns-2 c =
     let a = c .before .before .before .before .before .before .before .before .args in
-    λ o e. turn-found (a .number) (now (a .lines)) o _ (told-at o e (c .before .before .before .before .before .found .given .1)) _ _ (c .before .own-cell .ensures .0 ∙ c .before .before .before .place-at .ensures) (c .before .before .round-at .ensures)
+    λ o e. turn-found (a .number) (now (a .lines)) o _ (told-turn o e (c .before .before .before .before .before .found .given .1)) _ _ (c .before .own-cell .ensures .0 ∙ c .before .before .before .place-at .ensures) (c .before .before .round-at .ensures)
 
 pub at-turn-spec : {M : Type 1} → statement M
 at-turn-spec =

@@ -8,7 +8,7 @@ use Rattle.kit.specs.Decides.{to}
 use Rattle.law.specs.Sizes.{mostRounds}
 use Rattle.join.specs.Grid.{firstFrom}
 use Rattle.join.specs.Check.{brokenCell, atPlayer}
-use Rattle.turns.proofs.Told.{told-under}
+use Rattle.turns.proofs.Told.{told-turn, told-under}
 use Rattle.checks.specs.Laws.{asLaw, four}
 use Rattle.verdicts.specs.Verdict.{asVerdict}
 use Rattle.verdicts.proofs.broken.Statement.{statement}
@@ -24,7 +24,8 @@ at-turn-requires : tie.Need-at-turn-requires
 at-turn-requires c κs =
     let s = c .before .before .before .before .before .before .before in
     let a = s .args in
-    (s .pre .1, λ k e. omega (arith, s .pre .0 .1 .few, told-under (brokenCell (asLaw (a .kind)) (a .n) (a .rounds) (four (now (a .starts)) (now (a .opponents)) (now (a .colours)) (now (a .results)))) (a .n * mostRounds) (c .before .first-broken .ensures) e))
+    let f = brokenCell (asLaw (a .kind)) (a .n) (a .rounds) (four (now (a .starts)) (now (a .opponents)) (now (a .colours)) (now (a .results))) in
+    (s .pre .1, λ turn e. omega (arith, s .pre .0 .1 .few, told-under f (a .n * mostRounds) (told-turn (firstFrom f 0 (a .n * mostRounds)) (c .before .first-broken .ensures) e)))
 
 returns : tie.Need-returns
 returns c =

@@ -7,7 +7,7 @@ use Rattle.law.specs.Sizes.{mostRounds}
 use Rattle.law.specs.Refusals.{fileFaultNumber, past-142}
 use Rattle.join.specs.Grid.{firstFrom}
 use Rattle.join.specs.Check.{pastCell, atPlayer}
-use Rattle.turns.proofs.Told.{told-under}
+use Rattle.turns.proofs.Told.{told-turn, told-under}
 use Rattle.verdicts.proofs.Parts.{nothing-found}
 use Rattle.verdicts.proofs.past.Statement.{statement}
 use Rattle.verdicts.proofs.past.Tie as tie
@@ -30,7 +30,8 @@ at-turn-requires : tie.Need-at-turn-requires
 at-turn-requires c κs =
     let s = c .before .before .before .before .before in
     let a = s .args in
-    (s .pre .2, λ k e. omega (arith, s .pre .0, told-under (pastCell (a .rounds) (now (a .colours))) (a .n * mostRounds) (c .first-past .ensures) e))
+    let f = pastCell (a .rounds) (now (a .colours)) in
+    (s .pre .2, λ turn e. omega (arith, s .pre .0, told-under f (a .n * mostRounds) (told-turn (firstFrom f 0 (a .n * mostRounds)) (c .first-past .ensures) e)))
 
 returns-2 : tie.Need-returns-2
 returns-2 c =
