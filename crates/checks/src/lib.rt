@@ -52,12 +52,12 @@ fn is_bye_result(result: u8) -> bool
     (result == b'H') | (result == b'F') | (result == b'U') | (result == b'Z')
 }
 
-// Whether an entry is a bye.
-pub fn is_bye(id: u32, colour: u8, result: u8) -> bool
-    ensures { λ r. ⌜ r ≡ entries.isBye (entry id colour result) ⌝ }
+// Whether an entry is a bye. id: the opponent's start number, 0 if there is none.
+pub fn is_bye(id: StartNumber, colour: u8, result: u8) -> bool
+    ensures { λ r. ⌜ r ≡ entries.isBye (entry (id .0) colour result) ⌝ }
 {
     let of_bye = is_bye_result(result);
-    (id == 0) & (colour == b'-') & of_bye
+    (id.0 == 0) & (colour == b'-') & of_bye
 }
 
 // What is asked of each entry: a bye or a game, the opponent's entry names this player, the two results fit, one U a round.
@@ -88,15 +88,15 @@ fn is_game_result(result: u8) -> bool
 }
 
 // Whether an entry of the player with a start number is a game. opponent: whom its id names.
-fn is_game(id: u32, colour: u8, result: u8, start: StartNumber, opponent: Placed) -> bool
-    ensures { λ r. ⌜ ((o : Option ℕ) → opponent ≡ asPlaced o → r ≡ isGameBy (entry id colour result) (start .0) o) ⌝ }
+fn is_game(id: StartNumber, colour: u8, result: u8, start: StartNumber, opponent: Placed) -> bool
+    ensures { λ r. ⌜ ((o : Option ℕ) → opponent ≡ asPlaced o → r ≡ isGameBy (entry (id .0) colour result) (start .0) o) ⌝ }
 {
     let Placed::At(_) = opponent else {
         return false;
     };
     let of_colour = is_game_colour(colour);
     let of_result = is_game_result(result);
-    (id != start.0) & of_colour & of_result
+    (id.0 != start.0) & of_colour & of_result
 }
 
 // Whether an entry is a bye or a game.
@@ -114,14 +114,14 @@ fn keeps_bye_or_game(
     ensures { λ r. ⌜ ((n : ℕ) → Indexed (now (starts .entry)) n (now (index .entry)) → r ≡ keepsCell bye-or-game n (four (now (starts .entry)) (now (opponents .entry)) (now (colours .entry)) (now (results .entry))) (place .0) round) ⌝ }
 {
     let i = tables::cell_of(place, round);
-    let id = opponents[i];
+    let id = StartNumber(opponents[i]);
     let colour = colours[i];
     let result = results[i];
     if is_bye(id, colour, result) {
         return true;
     }
     let own = tables::own_cell(place);
-    let opponent = index::place_of(index, StartNumber(id));
+    let opponent = index::place_of(index, id);
     is_game(id, colour, result, StartNumber(starts[own]), opponent)
 }
 

@@ -82,14 +82,14 @@ fn keeps_entry(
     ensures { λ r. ⌜ (r ≡ true → (starts : List ℕ) (n : ℕ) → getD starts (place .0) 0 ≡ start .0 → Indexed starts n (now (index .entry)) → KeepsEntry n (four starts (now (opponents .entry)) (now (colours .entry)) (now (results .entry))) (place .0) round) ⌝ }
 {
     let i = tables::cell_of(place, round);
-    let id = opponents[i];
+    let id = StartNumber(opponents[i]);
     let colour = colours[i];
     let result = results[i];
-    let opponent = index::place_of(index, StartNumber(id));
+    let opponent = index::place_of(index, id);
     let Placed::At(other) = opponent else {
         return checks::is_bye(id, colour, result);
     };
-    if id == start.0 {
+    if id.0 == start.0 {
         return false;
     }
     let j = tables::cell_of(other, round);

@@ -10,7 +10,7 @@ is-bye-result-requires c κs = search needs
 
 returns : tie.Need-returns
 unfolding isBye
-returns c = rw (c .is-bye-result .ensures) refl
+returns c = rw (c .before .is-bye-result .ensures) refl
 
 pub is-bye-spec : {M : Type 1} → statement M
 is-bye-spec = tie.close (tie.spec is-bye-result-requires returns)

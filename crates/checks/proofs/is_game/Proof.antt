@@ -20,7 +20,7 @@ is-game-result-requires : tie.Need-is-game-result-requires
 is-game-result-requires c κs = search needs
 
 returns-2 : tie.Need-returns-2
-returns-2 c = λ o e. game-somebody _ _ _ _ o e (c .before .before .before .enum-told .given .1) (c .before .before .is-game-colour .ensures) (c .before .is-game-result .ensures)
+returns-2 c = λ o e. game-somebody _ _ _ _ o e (c .before .before .before .before .enum-told .given .1) (c .before .before .before .is-game-colour .ensures) (c .before .before .is-game-result .ensures)
 
 pub is-game-spec : {M : Type 1} → statement M
 is-game-spec =

@@ -7,11 +7,11 @@ use Rattle.checks.proofs.keeps_bye_or_game.Tie as tie
 cell-of-requires : tie.Need-cell-of-requires
 cell-of-requires c κs = search needs
 
-mul-id : tie.Need-mul-id
-mul-id c = search needs
+mul-t14 : tie.Need-mul-t14
+mul-t14 c = search needs
 
-shared-slice-read-id : tie.Need-shared-slice-read-id
-shared-slice-read-id c = search needs
+shared-slice-read-t16 : tie.Need-shared-slice-read-t16
+shared-slice-read-t16 c = search needs
 
 shared-slice-read-colour : tie.Need-shared-slice-read-colour
 shared-slice-read-colour c = search needs
@@ -31,11 +31,11 @@ own-cell-requires c κs = search needs
 place-of-requires : tie.Need-place-of-requires
 place-of-requires c κs = search needs
 
-mul-t14 : tie.Need-mul-t14
-mul-t14 c = search needs
+mul-t14-2 : tie.Need-mul-t14-2
+mul-t14-2 c = search needs
 
-shared-slice-read-t16 : tie.Need-shared-slice-read-t16
-shared-slice-read-t16 c = search needs
+shared-slice-read-t16-2 : tie.Need-shared-slice-read-t16-2
+shared-slice-read-t16-2 c = search needs
 
 is-game-requires : tie.Need-is-game-requires
 is-game-requires c κs = search needs
@@ -50,15 +50,15 @@ keeps-bye-or-game-spec =
     tie.close
     (tie.spec
     cell-of-requires
-    mul-id
-    shared-slice-read-id
+    mul-t14
+    shared-slice-read-t16
     shared-slice-read-colour
     shared-slice-read-result
     is-bye-requires
     returns
     own-cell-requires
     place-of-requires
-    mul-t14
-    shared-slice-read-t16
+    mul-t14-2
+    shared-slice-read-t16-2
     is-game-requires
     returns-2)

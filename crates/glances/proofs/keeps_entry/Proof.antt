@@ -11,11 +11,11 @@ use Rattle.glances.proofs.keeps_entry.Tie as tie
 cell-of-requires : tie.Need-cell-of-requires
 cell-of-requires c κs = search needs
 
-mul-id : tie.Need-mul-id
-mul-id c = search needs
+mul-if2 : tie.Need-mul-if2
+mul-if2 c = search needs
 
-shared-slice-read-id : tie.Need-shared-slice-read-id
-shared-slice-read-id c = search needs
+shared-slice-read-if2 : tie.Need-shared-slice-read-if2
+shared-slice-read-if2 c = search needs
 
 shared-slice-read-colour : tie.Need-shared-slice-read-colour
 shared-slice-read-colour c = search needs
@@ -43,16 +43,16 @@ returns-2 c = λ e. clash e
 
 cell-of-requires-2 : tie.Need-cell-of-requires-2
 cell-of-requires-2 c κs =
-    let start : tie.Start = c .before .before .before .before .before .before .before .before .before .before .before .before .before in
+    let start : tie.Start = c .before .before .before .before .before .before .before .before .before .before .before .before .before .before in
     let x = start .pre .1 .3 .indexed in
-    let found = told-player _ _ _ (c .before .before .before .before .before .place-of .ensures _ _ (x .says) (x .low)) (c .before .before .before .opponent .given .1) in
+    let found = told-player _ _ _ (c .before .before .before .before .before .before .place-of .ensures _ _ (x .says) (x .low)) (c .before .before .before .before .opponent .given .1) in
     (omega (arith, x .few, found), start .pre .0 .1, start .pre .0 .2)
 
-mul-if2 : tie.Need-mul-if2
-mul-if2 c = search needs
+mul-if2-2 : tie.Need-mul-if2-2
+mul-if2-2 c = search needs
 
-shared-slice-read-if2 : tie.Need-shared-slice-read-if2
-shared-slice-read-if2 c = search needs
+shared-slice-read-if2-2 : tie.Need-shared-slice-read-if2-2
+shared-slice-read-if2-2 c = search needs
 
 returns-3 : tie.Need-returns-3
 returns-3 c = λ e. clash e
@@ -75,7 +75,7 @@ are-one-game-requires c κs = search needs
 returns-5 : tie.Need-returns-5
 returns-5 c =
     λ t starts n s x.
-    game-keeps n starts _ _ _ _ _ (c .before .before .before .before .before .before .before .before .before .before .before .before .before .before .before .before .before .before .cell-of .ensures .0) (c .before .before .before .before .before .before .before .before .before .before .before .before .before .before .place-of .ensures starts n (x .says) (x .low)) (c .before .before .before .before .before .before .before .before .before .before .before .before .opponent .given .1) (c .before .before .before .before .before .before .before .before .cell-of2 .ensures .0) s
+    game-keeps n starts _ _ _ _ _ (c .before .before .before .before .before .before .before .before .before .before .before .before .before .before .before .before .before .before .before .cell-of .ensures .0) (c .before .before .before .before .before .before .before .before .before .before .before .before .before .before .before .place-of .ensures starts n (x .says) (x .low)) (c .before .before .before .before .before .before .before .before .before .before .before .before .before .opponent .given .1) (c .before .before .before .before .before .before .before .before .cell-of2 .ensures .0) s
     (c .before .before .before .before .before .before .before .before .before .if1 .left) (c .before .before .before .before .before .if2 .left) (c .before .before .before .are-opposite .ensures (not-false _ (c .before .before .if3 .left))) (c .are-one-game .ensures t)
 
 pub keeps-entry-spec : {M : Type 1} → statement M
@@ -83,8 +83,8 @@ keeps-entry-spec =
     tie.close
     (tie.spec
     cell-of-requires
-    mul-id
-    shared-slice-read-id
+    mul-if2
+    shared-slice-read-if2
     shared-slice-read-colour
     shared-slice-read-result
     place-of-requires
@@ -94,8 +94,8 @@ keeps-entry-spec =
     returns
     returns-2
     cell-of-requires-2
-    mul-if2
-    shared-slice-read-if2
+    mul-if2-2
+    shared-slice-read-if2-2
     returns-3
     shared-slice-read-are-opposite
     are-opposite-requires
