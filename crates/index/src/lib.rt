@@ -14,7 +14,7 @@ use types::StartNumber;
 // The index of the start numbers has a cell for each: the place of its player plus one, or 0.
 pub const START_CELLS: usize = MOST_START as usize + 1;
 
-// The player that a start number names.
+// A player, or nobody: whom a start number names, or the first of whom something is found.
 pub enum Placed {
     At(Place),
     Nobody,

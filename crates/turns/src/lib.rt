@@ -7,7 +7,7 @@ ghost use Rattle.join.specs.Check.{placeAt, roundAt};
 use types::MOST_ROUNDS;
 use types::Place;
 
-// A turn of a search, from 0: no place, and no cell.
+// A turn of a search, from 0. It is no place, and which cell it looks at tables alone knows.
 pub struct Turn(pub usize);
 
 // An acceleration record's number in file order, from 0.
