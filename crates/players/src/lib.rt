@@ -39,9 +39,9 @@ fn store_player(
     requires { ⌜ LongEight (now starts) (now points) (now ranks) (now kept) (now opponents) (now colours) (now results) (now lines) ⌝ }
     ensures { λ _. ⌜ ((p : PlayerLine) (text : List ℕ) → row ≡ theRow p → nine (now (starts .exit)) (now (points .exit)) (now (ranks .exit)) (now (kept .exit)) (now (opponents .exit)) (now (colours .exit)) (now (results .exit)) text (now (lines .exit)) ≡ storePlayer p (place .0) (line .0) (nine (now (starts .entry)) (now (points .entry)) (now (ranks .entry)) (now (kept .entry)) (now (opponents .entry)) (now (colours .entry)) (now (results .entry)) text (now (lines .entry)))) ⌝ }
 {
-    tables::store_number(starts, place, row.start.0);
-    tables::store_number(points, place, row.points);
-    tables::store_number(ranks, place, row.rank.0);
+    tables::store_start(starts, place, row.start);
+    tables::store_points(points, place, row.points);
+    tables::store_rank(ranks, place, row.rank);
     let columns = row.kept;
     tables::store_kept(kept, place, columns);
     let ids = row.ids;

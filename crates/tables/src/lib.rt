@@ -4,7 +4,7 @@ ghost use mathlib.Core.Path.{_≡_};
 ghost use mathlib.Core.List.{[], _∷_};
 ghost use Prim.Native.Nat.{_+_, _*_, _≤_, _<_};
 ghost use lib.Dec.{leb};
-ghost use lib.ListN.{length, set, take, drop};
+ghost use lib.ListN.{length, getD, set, take, drop};
 ghost use lib.Seq.{paste};
 ghost use Rattle.law.specs.Sizes.{mostPlayers, mostRounds, mostAccelerations, mostText};
 ghost use Rattle.law.specs.Columns.{width};
@@ -25,6 +25,8 @@ use types::MOST_PLAYERS;
 use types::MOST_ROUNDS;
 use types::MOST_TEXT;
 use types::Place;
+use types::Rank;
+use types::StartNumber;
 
 // Whether tables of these lengths are long enough: those that every call is lent.
 pub fn enough(
@@ -108,12 +110,70 @@ pub fn cell_of(place: Place, round: u32) -> usize
     place.0 as usize * MOST_ROUNDS + (round as usize - 1)
 }
 
-// A player's start number, points or rank.
-pub fn store_number(t: &mut [u32], place: Place, v: u32)
+// A number of a player in a table that has one for each: stored, and read back. What number it is, the functions after these say.
+fn store_own(t: &mut [u32], place: Place, v: u32)
     requires { ⌜ (place .0 < mostPlayers) × (mostPlayers ≤ length (now t)) ⌝ }
     ensures { λ _. ⌜ now (t .exit) ≡ set (now (t .entry)) (place .0) v ⌝ }
 {
     t[place.0 as usize] = v;
+}
+
+fn own_at(t: &[u32], place: Place) -> u32
+    requires { ⌜ (place .0 < mostPlayers) × (mostPlayers ≤ length (now t)) ⌝ }
+    ensures { λ r. ⌜ r ≡ getD (now (t .entry)) (place .0) 0 ⌝ }
+{
+    t[place.0 as usize]
+}
+
+// A player's start number, points and rank.
+pub fn store_start(starts: &mut [u32], place: Place, start: StartNumber)
+    requires { ⌜ (place .0 < mostPlayers) × (mostPlayers ≤ length (now starts)) ⌝ }
+    ensures { λ _. ⌜ now (starts .exit) ≡ set (now (starts .entry)) (place .0) (start .0) ⌝ }
+{
+    store_own(starts, place, start.0);
+}
+
+pub fn start_at(starts: &[u32], place: Place) -> StartNumber
+    requires { ⌜ (place .0 < mostPlayers) × (mostPlayers ≤ length (now starts)) ⌝ }
+    ensures { λ r. ⌜ r .0 ≡ getD (now (starts .entry)) (place .0) 0 ⌝ }
+{
+    StartNumber(own_at(starts, place))
+}
+
+pub fn store_points(t: &mut [u32], place: Place, points: u32)
+    requires { ⌜ (place .0 < mostPlayers) × (mostPlayers ≤ length (now t)) ⌝ }
+    ensures { λ _. ⌜ now (t .exit) ≡ set (now (t .entry)) (place .0) points ⌝ }
+{
+    store_own(t, place, points);
+}
+
+pub fn points_at(points: &[u32], place: Place) -> u32
+    requires { ⌜ (place .0 < mostPlayers) × (mostPlayers ≤ length (now points)) ⌝ }
+    ensures { λ r. ⌜ r ≡ getD (now (points .entry)) (place .0) 0 ⌝ }
+{
+    own_at(points, place)
+}
+
+pub fn store_rank(ranks: &mut [u32], place: Place, rank: Rank)
+    requires { ⌜ (place .0 < mostPlayers) × (mostPlayers ≤ length (now ranks)) ⌝ }
+    ensures { λ _. ⌜ now (ranks .exit) ≡ set (now (ranks .entry)) (place .0) (rank .0) ⌝ }
+{
+    store_own(ranks, place, rank.0);
+}
+
+pub fn rank_at(ranks: &[u32], place: Place) -> Rank
+    requires { ⌜ (place .0 < mostPlayers) × (mostPlayers ≤ length (now ranks)) ⌝ }
+    ensures { λ r. ⌜ r .0 ≡ getD (now (ranks .entry)) (place .0) 0 ⌝ }
+{
+    Rank(own_at(ranks, place))
+}
+
+// The opponent that a cell of the entry tables names, by start number; 0 for a bye.
+pub fn opponent_at(opponents: &[u32], cell: usize) -> StartNumber
+    requires { ⌜ (cell < entryCells) × (entryCells ≤ length (now opponents)) ⌝ }
+    ensures { λ r. ⌜ r .0 ≡ getD (now (opponents .entry)) cell 0 ⌝ }
+{
+    StartNumber(opponents[cell])
 }
 
 // A player's kept columns: stored, and read back.
@@ -161,7 +221,7 @@ pub fn store_line(t: &mut [u32], place: Place, line: LineNumber)
     requires { ⌜ (place .0 < mostPlayers) × (lineCells ≤ length (now t)) ⌝ }
     ensures { λ _. ⌜ now (t .exit) ≡ set (now (t .entry)) (place .0) (line .0) ⌝ }
 {
-    t[place.0 as usize] = line.0;
+    store_own(t, place, line.0);
 }
 
 // The line of an acceleration record.

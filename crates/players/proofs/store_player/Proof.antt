@@ -5,18 +5,18 @@ use Rattle.players.proofs.Cells.{player-stored}
 use Rattle.players.proofs.store_player.Statement.{statement}
 use Rattle.players.proofs.store_player.Tie as tie
 
-store-number-requires : tie.Need-store-number-requires
-store-number-requires c κs =
+store-start-requires : tie.Need-store-start-requires
+store-start-requires c κs =
     let s = c .before .before .before .before .before .before .before .before .before in
     (s .pre .0, s .pre .1 .starts-long)
 
-store-number-requires-2 : tie.Need-store-number-requires-2
-store-number-requires-2 c κs =
+store-points-requires : tie.Need-store-points-requires
+store-points-requires c κs =
     let s = c .before .before .before .before .before .before .before .before .before .before .before .before .before in
     (s .pre .0, s .pre .1 .points-long)
 
-store-number-requires-3 : tie.Need-store-number-requires-3
-store-number-requires-3 c κs =
+store-rank-requires : tie.Need-store-rank-requires
+store-rank-requires c κs =
     let s = c .before .before .before .before .before .before .before .before .before .before .before .before .before .before .before .before .before in
     (s .pre .0, s .pre .1 .ranks-long)
 
@@ -46,13 +46,13 @@ store-line-requires c κs =
     (s .pre .0, s .pre .1 .lines-long)
 
 same-length : tie.Need-same-length
-same-length c = c .before .before .before .before .before .before .before .before .before .before .before .before .before .before .before .before .before .before .before .before .before .before .before .before .before .before .before .before .before .before .before .before .before .before .store-number .kept .0
+same-length c = c .before .before .before .before .before .before .before .before .before .before .before .before .before .before .before .before .before .before .before .before .before .before .before .before .before .before .before .before .before .before .before .before .before .before .store-start .kept .0
 
 same-length-2 : tie.Need-same-length-2
-same-length-2 c = c .before .before .before .before .before .before .before .before .before .before .before .before .before .before .before .before .before .before .before .before .before .before .before .before .before .before .before .before .before .before .store-number2 .kept .0
+same-length-2 c = c .before .before .before .before .before .before .before .before .before .before .before .before .before .before .before .before .before .before .before .before .before .before .before .before .before .before .before .before .before .before .store-points .kept .0
 
 same-length-3 : tie.Need-same-length-3
-same-length-3 c = c .before .before .before .before .before .before .before .before .before .before .before .before .before .before .before .before .before .before .before .before .before .before .before .before .before .before .store-number3 .kept .0
+same-length-3 c = c .before .before .before .before .before .before .before .before .before .before .before .before .before .before .before .before .before .before .before .before .before .before .before .before .before .before .store-rank .kept .0
 
 same-length-4 : tie.Need-same-length-4
 same-length-4 c = c .before .before .before .before .before .before .before .before .before .before .before .before .before .before .before .before .before .before .before .before .before .store-kept .kept .0
@@ -74,9 +74,9 @@ returns c =
     let a = c .before .before .before .before .before .before .before .before .before .before .before .before .before .before .before .before .before .before .before .before .before .before .before .before .before .before .before .before .before .before .before .before .before .before .before .before .before .before .before .before .before .before .before .before .args in
     λ p text e.
     player-stored p (a .place .0) (a .line .0) (a .row) e (nine (now (a .starts)) (now (a .points)) (now (a .ranks)) (now (a .kept)) (now (a .opponents)) (now (a .colours)) (now (a .results)) text (now (a .lines)))
-    (c .before .before .before .before .before .before .before .before .before .before .before .before .before .before .before .before .before .before .before .before .before .before .before .before .before .before .before .before .before .before .before .before .before .before .store-number .ensures)
-    (c .before .before .before .before .before .before .before .before .before .before .before .before .before .before .before .before .before .before .before .before .before .before .before .before .before .before .before .before .before .before .store-number2 .ensures)
-    (c .before .before .before .before .before .before .before .before .before .before .before .before .before .before .before .before .before .before .before .before .before .before .before .before .before .before .store-number3 .ensures)
+    (c .before .before .before .before .before .before .before .before .before .before .before .before .before .before .before .before .before .before .before .before .before .before .before .before .before .before .before .before .before .before .before .before .before .before .store-start .ensures)
+    (c .before .before .before .before .before .before .before .before .before .before .before .before .before .before .before .before .before .before .before .before .before .before .before .before .before .before .before .before .before .before .store-points .ensures)
+    (c .before .before .before .before .before .before .before .before .before .before .before .before .before .before .before .before .before .before .before .before .before .before .before .before .before .before .store-rank .ensures)
     (c .before .before .before .before .before .before .before .before .before .before .before .before .before .before .before .before .before .before .before .before .before .store-kept .ensures)
     (c .before .before .before .before .before .before .before .before .before .before .before .before .before .before .before .before .store-numbers .ensures)
     (c .before .before .before .before .before .before .before .before .before .before .before .store-letters .ensures)
@@ -87,9 +87,9 @@ pub store-player-spec : {M : Type 1} → statement M
 store-player-spec =
     tie.close
     (tie.spec
-    store-number-requires
-    store-number-requires-2
-    store-number-requires-3
+    store-start-requires
+    store-points-requires
+    store-rank-requires
     store-kept-requires
     store-numbers-requires
     store-letters-requires
