@@ -88,7 +88,13 @@ fn is_game_result(result: u8) -> bool
 }
 
 // Whether an entry of the player with a start number is a game. opponent: whom its id names.
-fn is_game(id: StartNumber, colour: u8, result: u8, start: StartNumber, opponent: Placed) -> bool
+fn is_game(
+    id: StartNumber,
+    colour: u8,
+    result: u8,
+    start: StartNumber,
+    opponent: Placed,
+) -> bool
     ensures { λ r. ⌜ ((o : Option ℕ) → opponent ≡ asPlaced o → r ≡ isGameBy (entry (id .0) colour result) (start .0) o) ⌝ }
 {
     let Placed::At(_) = opponent else {
@@ -120,9 +126,9 @@ fn keeps_bye_or_game(
     if is_bye(id, colour, result) {
         return true;
     }
-    let own = tables::own_cell(place);
+    let start = tables::start_at(starts, place);
     let opponent = index::place_of(index, id);
-    is_game(id, colour, result, StartNumber(starts[own]), opponent)
+    is_game(id, colour, result, start, opponent)
 }
 
 // Whether the opponent's entry of that round names this player and has the other colour.
@@ -139,14 +145,15 @@ fn keeps_mutual(
     ensures { λ r. ⌜ ((n : ℕ) (results : List ℕ) → Indexed (now (starts .entry)) n (now (index .entry)) → r ≡ keepsCell mutual-pairing n (four (now (starts .entry)) (now (opponents .entry)) (now (colours .entry)) results) (place .0) round) ⌝ }
 {
     let i = tables::cell_of(place, round);
-    let id = opponents[i];
-    let opponent = index::place_of(index, StartNumber(id));
+    let id = StartNumber(opponents[i]);
+    let opponent = index::place_of(index, id);
     let Placed::At(other) = opponent else {
         return true;
     };
     let j = tables::cell_of(other, round);
-    let own = tables::own_cell(place);
-    (opponents[j] == starts[own]) & (colours[j] != colours[i])
+    let start = tables::start_at(starts, place);
+    let named = StartNumber(opponents[j]);
+    (named.0 == start.0) & (colours[j] != colours[i])
 }
 
 // Whether the result and the opponent's of that round fit.
@@ -162,8 +169,8 @@ fn keeps_fitting(
     ensures { λ r. ⌜ ((n : ℕ) (starts colours : List ℕ) → Indexed starts n (now (index .entry)) → r ≡ keepsCell fitting-results n (four starts (now (opponents .entry)) colours (now (results .entry))) (place .0) round) ⌝ }
 {
     let i = tables::cell_of(place, round);
-    let id = opponents[i];
-    let opponent = index::place_of(index, StartNumber(id));
+    let id = StartNumber(opponents[i]);
+    let opponent = index::place_of(index, id);
     let Placed::At(other) = opponent else {
         return true;
     };

@@ -93,7 +93,8 @@ fn keeps_entry(
         return false;
     }
     let j = tables::cell_of(other, round);
-    if opponents[j] != start.0 {
+    let named = StartNumber(opponents[j]);
+    if named.0 != start.0 {
         return false;
     }
     if !are_opposite(colour, colours[j]) {
@@ -117,8 +118,7 @@ fn keeps_row(
     requires { ⌜ Long (now starts) (now opponents) (now colours) (now results) × IsIndex (now index) × Answers (now answers) ⌝ }
     ensures { λ r. ⌜ (r ≡ true → (n : ℕ) → Indexed (now (starts .entry)) n (now (index .entry)) → KeepsRow n (four (now (starts .entry)) (now (opponents .entry)) (now (colours .entry)) (now (results .entry))) (place .0) rounds) ⌝ }
 {
-    let own = tables::own_cell(place);
-    let start = StartNumber(starts[own]);
+    let start = tables::start_at(starts, place);
     let mut j = 0;
     while j < rounds {
         if !keeps_entry(

@@ -45,7 +45,7 @@ pub fn put_colour(out: &mut [u8], at: usize, colour: u8) -> usize
     puts::put_letter(out, at, colour)
 }
 
-// Two number fields of one width with a column between them, filled with zeros; `records::span_at` reads them.
+// Two number fields of one width with a column between them, filled with zeros.
 fn put_span(out: &mut [u8], at: usize, width: usize, first: u32, last: u32) -> usize
     requires { ⌜ (1 ≤ width) × (at + (width + (1 + width)) ≤ length (now out)) ⌝ }
     ensures { λ r. ⌜ Puts (spanText width first last) (width + (1 + width)) at (now (out .entry)) (now (out .exit)) r ⌝ }

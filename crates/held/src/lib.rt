@@ -28,7 +28,6 @@ use types::MOST_RANK;
 use types::MOST_ROUNDS;
 use types::MOST_START;
 use types::Place;
-use types::StartNumber;
 
 // Whether the numbers from one cell up to another lie between two others.
 fn numbers_within(t: &[u32], from: usize, to: usize, least: u32, most: u32) -> bool
@@ -223,8 +222,7 @@ pub fn starts_differ(starts: &[u32], n: usize, index: &mut [u8; START_CELLS]) ->
     let mut p = 0;
     while p < n {
         let place = Place(p as u32);
-        let own = tables::own_cell(place);
-        let start = StartNumber(starts[own]);
+        let start = tables::start_at(starts, place);
         let Placed::Nobody = index::place_of(index, start) else {
             return false;
         };

@@ -37,15 +37,12 @@ module _ (opponents colours results : List ℕ) (place : ℕ) {at : ℕ} {t : Li
       → Put (entryFields opponents colours results place m) at t e u × (e ≤ at + 13 * m)
   fields-all n m {e} {u} p r h k = (subst (λ (j : ℕ). Put (entryFields opponents colours results place j) at t e u) (le-antisymm h k) p, omega arith)
 
--- ---- a player's line, in which i is the player's own cell
-pub player-line : (x : Six) (rounds place i : ℕ) {at : ℕ} {t : List ℕ} {e : ℕ} {u : List ℕ} {e′ : ℕ} {u′ : List ℕ} {e″ : ℕ} {u″ : List ℕ} → i ≡ place
-    → Put (standing (getD (x .starts) i 0) (getD (x .points) i 0) (getD (x .ranks) i 0)) at t e u
+-- ---- a player's line, of the numbers that stand in the player's cells
+pub player-line : (x : Six) (rounds place : ℕ) {start points rank at : ℕ} {t : List ℕ} {e : ℕ} {u : List ℕ} {e′ : ℕ} {u′ : List ℕ} {e″ : ℕ} {u″ : List ℕ}
+    → start ≡ getD (x .starts) place 0 → points ≡ getD (x .points) place 0 → rank ≡ getD (x .ranks) place 0 → Put (standing start points rank) at t e u
     → Put (entryFields (x .opponents) (x .colours) (x .results) place rounds) e u e′ u′ → Put (10 ∷ []) e′ u′ e″ u″ → Put (playerLine x rounds place) at t e″ u″
 unfolding playerLine
-player-line x rounds place i {at} {t} {e} {u} q p f l =
-    put-then
-    (put-then (subst (λ (k : ℕ). Put (standing (getD (x .starts) k 0) (getD (x .points) k 0) (getD (x .ranks) k 0)) at t e u) q p) f)
-    l
+player-line x rounds place of-start of-points of-rank p f l = put-then (put-then (rw (of-start, of-points, of-rank) at p) f) l
 
 -- room in a player's line for its standing, its entries and its last byte, and where it ends
 pub standing-room : {l : ℕ} (at : ℕ) → at + mostPlayerLine ≤ l → at + 32 ≤ l

@@ -13,6 +13,8 @@ ghost use Rattle.listing.specs.Listing.{six, Long, decimal, field, entry
 use types::Answer;
 use types::LF;
 use types::Place;
+use types::Rank;
+use types::StartNumber;
 
 // The most digits of a number.
 const DIGITS: usize = 10;
@@ -75,11 +77,11 @@ fn put_field(out: &mut [u8], at: usize, n: u32) -> usize
 }
 
 // A tab and an entry: id, colour and result with nothing between.
-fn put_entry(out: &mut [u8], at: usize, id: u32, colour: u8, result: u8) -> usize
+fn put_entry(out: &mut [u8], at: usize, id: StartNumber, colour: u8, result: u8) -> usize
     requires { ⌜ at + 13 ≤ length (now out) ⌝ }
-    ensures { λ r. ⌜ Put (entryField id colour result) at (now (out .entry)) r (now (out .exit)) × (r ≤ at + 13) ⌝ }
+    ensures { λ r. ⌜ Put (entryField (id .0) colour result) at (now (out .entry)) r (now (out .exit)) × (r ≤ at + 13) ⌝ }
 {
-    let of_id = put_field(out, at, id);
+    let of_id = put_field(out, at, id.0);
     let of_colour = put_byte(out, of_id, colour);
     put_byte(out, of_colour, result)
 }
@@ -104,19 +106,19 @@ fn put_entries(
     while round < rounds {
         round += 1;
         let cell = tables::cell_of(place, round);
-        end = put_entry(out, end, opponents[cell], colours[cell], results[cell]);
+        end = put_entry(out, end, StartNumber(opponents[cell]), colours[cell], results[cell]);
     }
     end
 }
 
 // Start number, points in tenths and rank.
-fn put_standing(out: &mut [u8], at: usize, start: u32, points: u32, rank: u32) -> usize
+fn put_standing(out: &mut [u8], at: usize, start: StartNumber, points: u32, rank: Rank) -> usize
     requires { ⌜ at + 32 ≤ length (now out) ⌝ }
-    ensures { λ r. ⌜ Put (standing start points rank) at (now (out .entry)) r (now (out .exit)) × (r ≤ at + 32) ⌝ }
+    ensures { λ r. ⌜ Put (standing (start .0) points (rank .0)) at (now (out .entry)) r (now (out .exit)) × (r ≤ at + 32) ⌝ }
 {
-    let of_start = put_number(out, at, start);
+    let of_start = put_number(out, at, start.0);
     let of_points = put_field(out, of_start, points);
-    put_field(out, of_points, rank)
+    put_field(out, of_points, rank.0)
 }
 
 // A player's line.
@@ -137,8 +139,10 @@ fn put_player(
     requires { ⌜ Long (six (now starts) (now points) (now ranks) (now opponents) (now colours) (now results)) ⌝ }
     ensures { λ r. ⌜ Put (playerLine (six (now (starts .entry)) (now (points .entry)) (now (ranks .entry)) (now (opponents .entry)) (now (colours .entry)) (now (results .entry))) rounds (place .0)) at (now (out .entry)) r (now (out .exit)) × (r ≤ at + mostPlayerLine) ⌝ }
 {
-    let i = tables::own_cell(place);
-    let of_standing = put_standing(out, at, starts[i], points[i], ranks[i]);
+    let start = tables::start_at(starts, place);
+    let stated = tables::points_at(points, place);
+    let rank = tables::rank_at(ranks, place);
+    let of_standing = put_standing(out, at, start, stated, rank);
     let of_entries = put_entries(out, of_standing, place, rounds, opponents, colours, results);
     put_byte(out, of_entries, LF)
 }

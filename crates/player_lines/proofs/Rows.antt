@@ -1,5 +1,5 @@
 -- The rounds of a player and the players, one after the other: each is what the cells say, and all of them are the statement's. Assumes nothing.
-use mathlib.Core.Path.{_≡_, refl, sym, ap, ap₂, _∙_}
+use mathlib.Core.Path.{_≡_, refl, sym, ap, _∙_}
 use mathlib.Core.List.{List, _++_, map}
 use Prim.Native.Nat.{ℕ, suc, _+_, _*_, _≤_, _<_}
 use native.Mathlib.Omega.{arith}
@@ -51,19 +51,17 @@ pub head-room : {l : ℕ} (at rounds : ℕ) → at + playerWide rounds ≤ l →
 head-room at rounds r = omega arith
 
 module _ (t : Seven) (rounds : ℕ) where
-  -- the cells that the code reads are those of the place
-  pub player-parts : (place : ℕ) {i first : ℕ} → i ≡ place → first ≡ place * width keptField
-      → headText (getD (t .starts) i 0) (take (width keptField) (drop first (t .kept))) (getD (t .points) i 0) (getD (t .ranks) i 0) ++ laid (suc headWide) (entriesFrom 1 (entriesIn (t .opponents) (t .colours) (t .results) place rounds)) ≡ playerLine (playerIn t rounds place)
+  -- the player's numbers stand in the place's cells, the kept columns from its first cell on
+  pub player-parts : (place : ℕ) {start points rank first : ℕ} → start ≡ getD (t .starts) place 0 → points ≡ getD (t .points) place 0 → rank ≡ getD (t .ranks) place 0 → first ≡ place * width keptField
+      → headText start (take (width keptField) (drop first (t .kept))) points rank ++ laid (suc headWide) (entriesFrom 1 (entriesIn (t .opponents) (t .colours) (t .results) place rounds)) ≡ playerLine (playerIn t rounds place)
   unfolding playerIn
-  player-parts place e f =
-      ap₂ (λ (i first : ℕ). headText (getD (t .starts) i 0) (take (width keptField) (drop first (t .kept))) (getD (t .points) i 0) (getD (t .ranks) i 0) ++ laid (suc headWide) (entriesFrom 1 (entriesIn (t .opponents) (t .colours) (t .results) place rounds))) e f
-      ∙ player-line (playerIn t rounds place)
+  player-parts place of-start of-points of-rank e = rw (of-start, of-points, of-rank, e) (player-line (playerIn t rounds place))
 
-  pub player-put : (place : ℕ) {i first at k next : ℕ} {x y z : List ℕ} → i ≡ place → first ≡ place * width keptField
-      → Puts (headText (getD (t .starts) i 0) (take (width keptField) (drop first (t .kept))) (getD (t .points) i 0) (getD (t .ranks) i 0)) headWide at x y k
+  pub player-put : (place : ℕ) {start points rank first at k next : ℕ} {x y z : List ℕ} → start ≡ getD (t .starts) place 0 → points ≡ getD (t .points) place 0 → rank ≡ getD (t .ranks) place 0 → first ≡ place * width keptField
+      → Puts (headText start (take (width keptField) (drop first (t .kept))) points rank) headWide at x y k
       → Puts (laid (suc headWide) (entriesFrom 1 (entriesIn (t .opponents) (t .colours) (t .results) place rounds))) (rounds * entryWide) k y z next
       → Puts (playerLine (playerIn t rounds place)) (playerWide rounds) at x z next
-  player-put place e f p q = puts-as (player-parts place e f) refl refl (puts-then p q)
+  player-put place of-start of-points of-rank e p q = puts-as (player-parts place of-start of-points of-rank e) refl refl (puts-then p q)
 
   module _ (end : Terminator) (players : ℕ) where
     abbrev pub endedPlayer : ℕ → List ℕ

@@ -115,17 +115,11 @@ fn put_player(
     requires { ⌜ (place .0 < mostPlayers) × (rounds ≤ mostRounds) × (at + playerWide rounds ≤ length (now out)) ⌝ }
     ensures { λ r. ⌜ Puts (playerLine (playerIn (given starts points ranks kept opponents colours results) rounds (place .0))) (playerWide rounds) at (now (out .entry)) (now (out .exit)) r ⌝ }
 {
-    let i = tables::own_cell(place);
+    let start = tables::start_at(starts, place);
     let from = tables::kept_cell(place);
-    let at = put_head(
-        out,
-        at,
-        StartNumber(starts[i]),
-        kept,
-        from,
-        points[i],
-        Rank(ranks[i]),
-    );
+    let stated = tables::points_at(points, place);
+    let rank = tables::rank_at(ranks, place);
+    let at = put_head(out, at, start, kept, from, stated, rank);
     put_entries(out, at, place, rounds, opponents, colours, results)
 }
 

@@ -143,8 +143,7 @@ pub fn ask_core(
         return refused(20);
     }
     let values = answer.values;
-    let own = tables::own_cell(place);
-    let start = StartNumber(starts[own]);
+    let start = tables::start_at(starts, place);
     let n = answer.accelerations as usize;
     Score {
         number: 0,

@@ -168,14 +168,6 @@ pub fn rank_at(ranks: &[u32], place: Place) -> Rank
     Rank(own_at(ranks, place))
 }
 
-// The opponent that a cell of the entry tables names, by start number; 0 for a bye.
-pub fn opponent_at(opponents: &[u32], cell: usize) -> StartNumber
-    requires { ⌜ (cell < entryCells) × (entryCells ≤ length (now opponents)) ⌝ }
-    ensures { λ r. ⌜ r .0 ≡ getD (now (opponents .entry)) cell 0 ⌝ }
-{
-    StartNumber(opponents[cell])
-}
-
 // A player's kept columns: stored, and read back.
 pub fn store_kept(t: &mut [u8], place: Place, kept: [u8; KEPT_COLUMNS])
     requires { ⌜ (place .0 < mostPlayers) × (keptCells ≤ length (now t)) ⌝ }

@@ -28,17 +28,17 @@ add-round c = search needs
 cell-of-requires : tie.Need-cell-of-requires Inv-loop μ-loop
 cell-of-requires c κs = search needs
 
-mul-put-entry : tie.Need-mul-put-entry Inv-loop μ-loop
-mul-put-entry c = search needs
+mul-t14 : tie.Need-mul-t14 Inv-loop μ-loop
+mul-t14 c = search needs
+
+shared-slice-read-t16 : tie.Need-shared-slice-read-t16 Inv-loop μ-loop
+shared-slice-read-t16 c = search needs
 
 shared-slice-read-put-entry : tie.Need-shared-slice-read-put-entry Inv-loop μ-loop
 shared-slice-read-put-entry c = search needs
 
 shared-slice-read-put-entry-2 : tie.Need-shared-slice-read-put-entry-2 Inv-loop μ-loop
 shared-slice-read-put-entry-2 c = search needs
-
-shared-slice-read-put-entry-3 : tie.Need-shared-slice-read-put-entry-3 Inv-loop μ-loop
-shared-slice-read-put-entry-3 c = search needs
 
 put-entry-requires : tie.Need-put-entry-requires Inv-loop μ-loop
 put-entry-requires c κs = search needs
@@ -74,10 +74,10 @@ put-entries-spec =
     loop-holds
     add-round
     cell-of-requires
-    mul-put-entry
+    mul-t14
+    shared-slice-read-t16
     shared-slice-read-put-entry
     shared-slice-read-put-entry-2
-    shared-slice-read-put-entry-3
     put-entry-requires
     loop-less
     loop-again

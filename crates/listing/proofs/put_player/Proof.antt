@@ -6,51 +6,40 @@ use Rattle.listing.specs.Listing.{six}
 use Rattle.listing.proofs.put_player.Statement.{statement}
 use Rattle.listing.proofs.put_player.Tie as tie
 
-own-cell-requires : tie.Need-own-cell-requires
-own-cell-requires c κs = c .before .before .before .before .before .before .before .pre .1 .0 .0
+start-at-requires : tie.Need-start-at-requires
+start-at-requires c κs = let p = c .before .before .before .before .before .before .before .pre in (p .1 .0 .0, p .1 .1 .starts)
 
-mul-put-standing : tie.Need-mul-put-standing
-mul-put-standing c = search needs
+points-at-requires : tie.Need-points-at-requires
+points-at-requires c κs = let p = c .before .before .before .before .before .before .before .before .pre in (p .1 .0 .0, p .1 .1 .points)
 
-shared-slice-read-put-standing : tie.Need-shared-slice-read-put-standing
-shared-slice-read-put-standing c = search needs
-
-mul-put-standing-2 : tie.Need-mul-put-standing-2
-mul-put-standing-2 c = search needs
-
-shared-slice-read-put-standing-2 : tie.Need-shared-slice-read-put-standing-2
-shared-slice-read-put-standing-2 c = search needs
-
-mul-put-standing-3 : tie.Need-mul-put-standing-3
-mul-put-standing-3 c = search needs
-
-shared-slice-read-put-standing-3 : tie.Need-shared-slice-read-put-standing-3
-shared-slice-read-put-standing-3 c = search needs
+rank-at-requires : tie.Need-rank-at-requires
+rank-at-requires c κs = let p = c .before .before .before .before .before .before .before .before .before .pre in (p .1 .0 .0, p .1 .1 .ranks)
 
 put-standing-requires : tie.Need-put-standing-requires
-put-standing-requires c κs = let s = c .before .before .before .before .before .before .before .before .before .before .before .before in standing-room (s .args .at) (s .pre .0)
+put-standing-requires c κs = let s = c .before .before .before .before .before .before .before .before .before .before .before in standing-room (s .args .at) (s .pre .0)
 
 put-entries-requires : tie.Need-put-entries-requires
 put-entries-requires c κs =
-    let p = c .before .before .before .before .before .before .before .before .before .before .before .before .before .before .before .before .pre in
+    let p = c .before .before .before .before .before .before .before .before .before .before .before .before .before .before .before .pre in
     let e = c .before .before .before .put-standing .ensures in
     let l = p .1 .1 in
     (entries-room (e .0) (e .1) (p .1 .0 .1) (p .0), (p .1 .0, (l .opponents, l .colours, l .results)))
 
 put-byte-requires : tie.Need-put-byte-requires
 put-byte-requires c κs =
-    let p = c .before .before .before .before .before .before .before .before .before .before .before .before .before .before .before .before .before .before .before .before .pre in
+    let p = c .before .before .before .before .before .before .before .before .before .before .before .before .before .before .before .before .before .before .before .pre in
     let e = c .before .before .before .before .before .before .before .put-standing .ensures in
     let f = c .before .before .before .put-entries .ensures in
     last-room (e .0) (e .1) (p .1 .0 .1) (f .0) (f .1) (p .0)
 
 returns : tie.Need-returns
 returns c =
-    let s : tie.Start = c .before .before .before .before .before .before .before .before .before .before .before .before .before .before .before .before .before .before .before .before .before .before .before in
+    let s : tie.Start = c .before .before .before .before .before .before .before .before .before .before .before .before .before .before .before .before .before .before .before .before .before .before in
     let e = c .before .before .before .before .before .before .before .before .before .before .put-standing .ensures in
     let f = c .before .before .before .before .before .before .put-entries .ensures in
     let g = c .before .before .put-byte .ensures in (
-      player-line (six (s .args .starts .now) (s .args .points .now) (s .args .ranks .now) (s .args .opponents .now) (s .args .colours .now) (s .args .results .now)) (s .args .rounds) (s .args .place .0) _ (c .before .before .before .before .before .before .before .before .before .before .before .before .before .before .before .own-cell .ensures .0) (e .0) (f .0) (g .0),
+      player-line (six (s .args .starts .now) (s .args .points .now) (s .args .ranks .now) (s .args .opponents .now) (s .args .colours .now) (s .args .results .now)) (s .args .rounds) (s .args .place .0) (c .before .before .before .before .before .before .before .before .before .before .before .before .before .before .start-at .ensures) (c .before .before .before .before .before .before .before .before .before .before .before .before .before .points-at .ensures)
+          (c .before .before .before .before .before .before .before .before .before .before .before .before .rank-at .ensures) (e .0) (f .0) (g .0),
       line-ends (e .0) (e .1) (s .pre .1 .0 .1) (f .0) (f .1) (g .1),
     )
 
@@ -61,13 +50,9 @@ pub put-player-spec : {M : Type 1} → statement M
 put-player-spec =
     tie.close
     (tie.spec
-    own-cell-requires
-    mul-put-standing
-    shared-slice-read-put-standing
-    mul-put-standing-2
-    shared-slice-read-put-standing-2
-    mul-put-standing-3
-    shared-slice-read-put-standing-3
+    start-at-requires
+    points-at-requires
+    rank-at-requires
     put-standing-requires
     put-entries-requires
     put-byte-requires
