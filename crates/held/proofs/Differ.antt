@@ -34,20 +34,20 @@ module _ (starts : List ℕ) (n : ℕ) (few : n ≤ mostPlayers) (long : n ≤ l
   pub low-starts : (p : ℕ) → p ≤ n → LowStarts starts p
   low-starts p h i l = within 1 mostStart (getD starts i 0) (are i (omega arith)) .1
 
-  pub start-low : (p : ℕ) → p < n → {own : ℕ} → own ≡ p → getD starts own 0 ≤ mostStart
+  pub start-low : (p : ℕ) → p < n → {start : ℕ} → start ≡ getD starts p 0 → start ≤ mostStart
   start-low p l o = rw o (within 1 mostStart (getD starts p 0) (are p l) .1)
 
-  -- the start number of place p, which stands in its own cell, is looked up
-  module _ (p : ℕ) (l : p < n) {own : ℕ} (o : own ≡ p) {a : Placed} (told : a ≡ asPlaced (placeOf starts p (getD starts own 0))) where
+  -- the start number of place p is looked up
+  module _ (p : ℕ) (l : p < n) {start : ℕ} (o : start ≡ getD starts p 0) {a : Placed} (told : a ≡ asPlaced (placeOf starts p start)) where
     here : a ≡ asPlaced (placeOf starts p (getD starts p 0))
-    here = told ∙ ap (λ (k : ℕ). asPlaced (placeOf starts p (getD starts k 0))) o
+    here = told ∙ ap (λ (k : ℕ). asPlaced (placeOf starts p k)) o
 
     -- another has it too
     pub differ-not : {place : Place} → a ≡ At place → {index : List ℕ} → Told ((q : ℕ) → q < n → New starts q) false × (false ≡ true → Indexed starts n index)
     differ-not e = (told-no (λ h. no-some (sym (h p l) ∙ told-place (placeOf starts p (getD starts p 0)) here e)), clash)
 
     -- nobody has it; index′ has it too
-    pub differ-next : a ≡ Nobody → {index index′ : List ℕ} → Differing starts n index p → index′ ≡ set index (getD starts own 0) (p + 1) → Differing starts n index′ (p + 1)
+    pub differ-next : a ≡ Nobody → {index index′ : List ℕ} → Differing starts n index p → index′ ≡ set index start (p + 1) → Differing starts n index′ (p + 1)
     differ-next e {index} {index′} h g =
         let free : New starts p = told-nobody (placeOf starts p (getD starts p 0)) here e in
         record {

@@ -119,7 +119,7 @@ fn store_own(t: &mut [u32], place: Place, v: u32)
 }
 
 fn own_at(t: &[u32], place: Place) -> u32
-    requires { ⌜ (place .0 < mostPlayers) × (mostPlayers ≤ length (now t)) ⌝ }
+    requires { ⌜ place .0 < length (now t) ⌝ }
     ensures { λ r. ⌜ r ≡ getD (now (t .entry)) (place .0) 0 ⌝ }
 {
     t[place.0 as usize]
@@ -134,7 +134,7 @@ pub fn store_start(starts: &mut [u32], place: Place, start: StartNumber)
 }
 
 pub fn start_at(starts: &[u32], place: Place) -> StartNumber
-    requires { ⌜ (place .0 < mostPlayers) × (mostPlayers ≤ length (now starts)) ⌝ }
+    requires { ⌜ place .0 < length (now starts) ⌝ }
     ensures { λ r. ⌜ r .0 ≡ getD (now (starts .entry)) (place .0) 0 ⌝ }
 {
     StartNumber(own_at(starts, place))
@@ -148,7 +148,7 @@ pub fn store_points(t: &mut [u32], place: Place, points: u32)
 }
 
 pub fn points_at(points: &[u32], place: Place) -> u32
-    requires { ⌜ (place .0 < mostPlayers) × (mostPlayers ≤ length (now points)) ⌝ }
+    requires { ⌜ place .0 < length (now points) ⌝ }
     ensures { λ r. ⌜ r ≡ getD (now (points .entry)) (place .0) 0 ⌝ }
 {
     own_at(points, place)
@@ -162,7 +162,7 @@ pub fn store_rank(ranks: &mut [u32], place: Place, rank: Rank)
 }
 
 pub fn rank_at(ranks: &[u32], place: Place) -> Rank
-    requires { ⌜ (place .0 < mostPlayers) × (mostPlayers ≤ length (now ranks)) ⌝ }
+    requires { ⌜ place .0 < length (now ranks) ⌝ }
     ensures { λ r. ⌜ r .0 ≡ getD (now (ranks .entry)) (place .0) 0 ⌝ }
 {
     Rank(own_at(ranks, place))

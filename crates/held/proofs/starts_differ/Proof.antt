@@ -15,17 +15,11 @@ abbrev μ-loop : tie.MeasureT-loop
 loop-holds : tie.Need-loop-holds Inv-loop μ-loop
 loop-holds c = record { upto = search needs; new = λ q l. absurd (omega arith); says = c .before .pre .3 }
 
-cast-t9 : tie.Need-cast-t9 Inv-loop μ-loop
-cast-t9 c = search needs
+cast-t8 : tie.Need-cast-t8 Inv-loop μ-loop
+cast-t8 c = search needs
 
-own-cell-requires : tie.Need-own-cell-requires Inv-loop μ-loop
-own-cell-requires c κs = search needs
-
-mul-t10 : tie.Need-mul-t10 Inv-loop μ-loop
-mul-t10 c = search needs
-
-shared-slice-read-t9 : tie.Need-shared-slice-read-t9 Inv-loop μ-loop
-shared-slice-read-t9 c = search needs
+start-at-requires : tie.Need-start-at-requires Inv-loop μ-loop
+start-at-requires c κs = omega (arith, c .loop-test .taken, c .before .before .before .pre .1)
 
 place-of-requires : tie.Need-place-of-requires Inv-loop μ-loop
 place-of-requires c κs = search needs
@@ -38,18 +32,18 @@ enum-told-2 c = search needs
 
 returns : tie.Need-returns Inv-loop μ-loop
 returns c =
-    let s = c .before .before .before .before .before .before .before .before .before in
-    let l = c .before .before .before .before .before .before .before .loop in
-    let t = c .before .before .before .before .before .before .loop-test .taken in
-    differ-not (s .args .starts .now) (s .args .n) (s .pre .0) (s .pre .1) (s .pre .2) (l .p) t (c .before .before .before .before .before .own-cell .ensures .0)
+    let s = c .before .before .before .before .before .before .before .before in
+    let l = c .before .before .before .before .before .before .loop in
+    let t = c .before .before .before .before .before .loop-test .taken in
+    differ-not (s .args .starts .now) (s .args .n) (s .pre .0) (s .pre .1) (s .pre .2) (l .p) t (c .before .before .before .before .start-at .ensures)
     (c .before .before .place-of .ensures _ (l .p) (l .inv .says) (low-starts (s .args .starts .now) (s .args .n) (s .pre .0) (s .pre .1) (s .pre .2) (l .p) (l .inv .upto))) (c .enum-told2 .given .1)
 
 index-start-requires : tie.Need-index-start-requires Inv-loop μ-loop
 index-start-requires c κs =
-    let s = c .before .before .before .before .before .before .before .before .before .before in
-    let l = c .before .before .before .before .before .before .before .before .loop in
-    let t = c .before .before .before .before .before .before .before .loop-test .taken in
-    (start-low (s .args .starts .now) (s .args .n) (s .pre .0) (s .pre .1) (s .pre .2) (l .p) t (c .before .before .before .before .before .before .own-cell .ensures .0), omega (arith, t, s .pre .0))
+    let s = c .before .before .before .before .before .before .before .before .before in
+    let l = c .before .before .before .before .before .before .before .loop in
+    let t = c .before .before .before .before .before .before .loop-test .taken in
+    (start-low (s .args .starts .now) (s .args .n) (s .pre .0) (s .pre .1) (s .pre .2) (l .p) t (c .before .before .before .before .before .start-at .ensures), omega (arith, t, s .pre .0))
 
 add-p : tie.Need-add-p Inv-loop μ-loop
 add-p c = search needs
@@ -59,10 +53,10 @@ loop-less c = search needs
 
 loop-again : tie.Need-loop-again Inv-loop μ-loop
 loop-again c =
-    let s = c .before .before .before .before .before .before .before .before .before .before .before in
-    let l = c .before .before .before .before .before .before .before .before .before .loop in
-    let t = c .before .before .before .before .before .before .before .before .loop-test .taken in
-    differ-next (s .args .starts .now) (s .args .n) (s .pre .0) (s .pre .1) (s .pre .2) (l .p) t (c .before .before .before .before .before .before .before .own-cell .ensures .0)
+    let s = c .before .before .before .before .before .before .before .before .before .before in
+    let l = c .before .before .before .before .before .before .before .before .loop in
+    let t = c .before .before .before .before .before .before .before .loop-test .taken in
+    differ-next (s .args .starts .now) (s .args .n) (s .pre .0) (s .pre .1) (s .pre .2) (l .p) t (c .before .before .before .before .before .before .start-at .ensures)
     (c .before .before .before .before .place-of .ensures _ (l .p) (l .inv .says) (low-starts (s .args .starts .now) (s .args .n) (s .pre .0) (s .pre .1) (s .pre .2) (l .p) (l .inv .upto))) (c .before .before .enum-told .given .1) (l .inv) (c .index-start .ensures)
 
 returns-2 : tie.Need-returns-2 Inv-loop μ-loop
@@ -71,4 +65,4 @@ returns-2 c =
     differ-all (s .args .starts .now) (s .args .n) (s .pre .0) (s .pre .1) (s .pre .2) (c .before .loop .inv) (c .loop-test .left)
 
 pub starts-differ-spec : {M : Type 1} → statement M
-starts-differ-spec = tie.close (tie.spec Inv-loop μ-loop loop-holds cast-t9 own-cell-requires mul-t10 shared-slice-read-t9 place-of-requires enum-told enum-told-2 returns index-start-requires add-p loop-less loop-again returns-2)
+starts-differ-spec = tie.close (tie.spec Inv-loop μ-loop loop-holds cast-t8 start-at-requires place-of-requires enum-told enum-told-2 returns index-start-requires add-p loop-less loop-again returns-2)

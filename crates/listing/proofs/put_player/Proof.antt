@@ -1,5 +1,5 @@
 -- `listing::put_player` meets its contract. Assumes nothing.
-use borrow.Author.Needs.{needs}
+use native.Mathlib.Omega.{arith}
 use Rattle.listing.proofs.Lines.{player-line, standing-room, entries-room, last-room, line-ends}
 use Rattle.listing.proofs.Puts.{put-long}
 use Rattle.listing.specs.Listing.{six}
@@ -7,13 +7,13 @@ use Rattle.listing.proofs.put_player.Statement.{statement}
 use Rattle.listing.proofs.put_player.Tie as tie
 
 start-at-requires : tie.Need-start-at-requires
-start-at-requires c κs = let p = c .before .before .before .before .before .before .before .pre in (p .1 .0 .0, p .1 .1 .starts)
+start-at-requires c κs = let p = c .before .before .before .before .before .before .before .pre in omega (arith, p .1 .0 .0, p .1 .1 .starts)
 
 points-at-requires : tie.Need-points-at-requires
-points-at-requires c κs = let p = c .before .before .before .before .before .before .before .before .pre in (p .1 .0 .0, p .1 .1 .points)
+points-at-requires c κs = let p = c .before .before .before .before .before .before .before .before .pre in omega (arith, p .1 .0 .0, p .1 .1 .points)
 
 rank-at-requires : tie.Need-rank-at-requires
-rank-at-requires c κs = let p = c .before .before .before .before .before .before .before .before .before .pre in (p .1 .0 .0, p .1 .1 .ranks)
+rank-at-requires c κs = let p = c .before .before .before .before .before .before .before .before .before .pre in omega (arith, p .1 .0 .0, p .1 .1 .ranks)
 
 put-standing-requires : tie.Need-put-standing-requires
 put-standing-requires c κs = let s = c .before .before .before .before .before .before .before .before .before .before .before in standing-room (s .args .at) (s .pre .0)

@@ -2,7 +2,7 @@
 use Prim.Native.Nat.{_*_}
 use native.Mathlib.Nat.{le-trans}
 use denote.Ref.{now}
-use borrow.Author.Needs.{needs}
+use native.Mathlib.Omega.{arith}
 use Rattle.puts.proofs.Puts.{room-left}
 use Rattle.player_lines.specs.Lines.{entryWide}
 use Rattle.player_lines.specs.Rows.{seven}
@@ -11,16 +11,16 @@ use Rattle.player_lines.proofs.put_player.Statement.{statement}
 use Rattle.player_lines.proofs.put_player.Tie as tie
 
 start-at-requires : tie.Need-start-at-requires
-start-at-requires c κs = let p = c .before .before .before .before .before .before .before .before .pre in (p .1 .0, p .0 .starts)
+start-at-requires c κs = let p = c .before .before .before .before .before .before .before .before .pre in omega (arith, p .1 .0, p .0 .starts)
 
 kept-cell-requires : tie.Need-kept-cell-requires
 kept-cell-requires c κs = c .before .before .before .before .before .before .before .before .before .pre .1 .0
 
 points-at-requires : tie.Need-points-at-requires
-points-at-requires c κs = let p = c .before .before .before .before .before .before .before .before .before .before .pre in (p .1 .0, p .0 .points)
+points-at-requires c κs = let p = c .before .before .before .before .before .before .before .before .before .before .pre in omega (arith, p .1 .0, p .0 .points)
 
 rank-at-requires : tie.Need-rank-at-requires
-rank-at-requires c κs = let p = c .before .before .before .before .before .before .before .before .before .before .before .pre in (p .1 .0, p .0 .ranks)
+rank-at-requires c κs = let p = c .before .before .before .before .before .before .before .before .before .before .before .pre in omega (arith, p .1 .0, p .0 .ranks)
 
 put-head-requires : tie.Need-put-head-requires
 put-head-requires c κs =
