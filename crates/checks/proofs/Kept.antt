@@ -47,8 +47,8 @@ module _ (n : ℕ) (starts opponents colours results : List ℕ) (p round : ℕ)
   unfolding keepsCell entryCell
   bye-kept e t = rw (rw cell at (sym e ∙ t)) refl
 
-  pub game-kept : {v w : Bool} {own : ℕ} → v ≡ isBye (entry (getD opponents i 0) (getD colours i 0) (getD results i 0)) → v ≡ false → own ≡ p
-      → w ≡ isGameBy (entry (getD opponents i 0) (getD colours i 0) (getD results i 0)) (getD starts own 0) (placeOf starts n (getD opponents i 0))
+  pub game-kept : {v w : Bool} {start : ℕ} → v ≡ isBye (entry (getD opponents i 0) (getD colours i 0) (getD results i 0)) → v ≡ false → start ≡ getD starts p 0
+      → w ≡ isGameBy (entry (getD opponents i 0) (getD colours i 0) (getD results i 0)) start (placeOf starts n (getD opponents i 0))
       → w ≡ keepsCell bye-or-game n (four starts opponents colours results) p round
   unfolding keepsCell entryCell
   game-kept e f o g = rw (rw cell at (sym e ∙ f)) (rw (cell, o) at g)
@@ -69,8 +69,8 @@ module _ (n : ℕ) (starts opponents colours results : List ℕ) (p round : ℕ)
       named : placeOf starts n (getD opponents (cellOf p round) 0) ≡ some (other .0)
       named = rw cell at (told-place (placeOf starts n (getD opponents i 0)) told at)
 
-      pub mutual-kept : {own : ℕ} → own ≡ p
-          → eqb (getD opponents j 0) (getD starts own 0) && not (eqb (getD colours j 0) (getD colours i 0)) ≡ keepsCell mutual-pairing n (four starts opponents colours results) p round
+      pub mutual-kept : {start : ℕ} → start ≡ getD starts p 0
+          → eqb (getD opponents j 0) start && not (eqb (getD colours j 0) (getD colours i 0)) ≡ keepsCell mutual-pairing n (four starts opponents colours results) p round
       unfolding keepsCell entryCell answersBy
       mutual-kept o = rw (named, cell, theirs, o) refl
 

@@ -25,25 +25,19 @@ is-bye-requires c κs = search needs
 returns : tie.Need-returns
 returns c = λ n x. bye-kept n _ _ _ _ _ _ (c .before .before .before .before .before .cell-of .ensures .0) (c .before .is-bye .ensures) (c .if1 .taken)
 
-own-cell-requires : tie.Need-own-cell-requires
-own-cell-requires c κs = search needs
+start-at-requires : tie.Need-start-at-requires
+start-at-requires c κs = search needs
 
 place-of-requires : tie.Need-place-of-requires
 place-of-requires c κs = search needs
-
-mul-t14-2 : tie.Need-mul-t14-2
-mul-t14-2 c = search needs
-
-shared-slice-read-t16-2 : tie.Need-shared-slice-read-t16-2
-shared-slice-read-t16-2 c = search needs
 
 is-game-requires : tie.Need-is-game-requires
 is-game-requires c κs = search needs
 
 returns-2 : tie.Need-returns-2
 returns-2 c = λ n x.
-    game-kept n _ _ _ _ _ _ (c .before .before .before .before .before .before .before .before .before .cell-of .ensures .0) (c .before .before .before .before .before .is-bye .ensures) (c .before .before .before .before .if1 .left) (c .before .before .before .own-cell .ensures .0)
-    (c .is-game .ensures _ (c .before .before .place-of .ensures _ n (x .says) (x .low)))
+    game-kept n _ _ _ _ _ _ (c .before .before .before .before .before .before .before .before .cell-of .ensures .0) (c .before .before .before .before .is-bye .ensures) (c .before .before .before .if1 .left) (c .before .before .start-at .ensures)
+    (c .is-game .ensures _ (c .before .place-of .ensures _ n (x .says) (x .low)))
 
 pub keeps-bye-or-game-spec : {M : Type 1} → statement M
 keeps-bye-or-game-spec =
@@ -56,9 +50,7 @@ keeps-bye-or-game-spec =
     shared-slice-read-result
     is-bye-requires
     returns
-    own-cell-requires
+    start-at-requires
     place-of-requires
-    mul-t14-2
-    shared-slice-read-t16-2
     is-game-requires
     returns-2)

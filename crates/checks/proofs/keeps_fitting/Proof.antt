@@ -9,11 +9,11 @@ use Rattle.checks.proofs.keeps_fitting.Tie as tie
 cell-of-requires : tie.Need-cell-of-requires
 cell-of-requires c κs = search needs
 
-mul-id : tie.Need-mul-id
-mul-id c = search needs
+mul-t11 : tie.Need-mul-t11
+mul-t11 c = search needs
 
-shared-slice-read-id : tie.Need-shared-slice-read-id
-shared-slice-read-id c = search needs
+shared-slice-read-t13 : tie.Need-shared-slice-read-t13
+shared-slice-read-t13 c = search needs
 
 place-of-requires : tie.Need-place-of-requires
 place-of-requires c κs = search needs
@@ -53,8 +53,8 @@ keeps-fitting-spec =
     tie.close
     (tie.spec
     cell-of-requires
-    mul-id
-    shared-slice-read-id
+    mul-t11
+    shared-slice-read-t13
     place-of-requires
     enum-known-opponent
     enum-told

@@ -9,11 +9,11 @@ use Rattle.checks.proofs.keeps_mutual.Tie as tie
 cell-of-requires : tie.Need-cell-of-requires
 cell-of-requires c κs = search needs
 
-mul-id : tie.Need-mul-id
-mul-id c = search needs
+mul-t14 : tie.Need-mul-t14
+mul-t14 c = search needs
 
-shared-slice-read-id : tie.Need-shared-slice-read-id
-shared-slice-read-id c = search needs
+shared-slice-read-t16 : tie.Need-shared-slice-read-t16
+shared-slice-read-t16 c = search needs
 
 place-of-requires : tie.Need-place-of-requires
 place-of-requires c κs = search needs
@@ -34,49 +34,41 @@ cell-of-requires-2 c κs =
     let found = told-player _ _ _ (c .before .before .before .place-of .ensures _ _ (x .says) (x .low)) (c .before .opponent .given .1) in
     (omega (arith, x .few, found), start .pre .0 .1, start .pre .0 .2)
 
-own-cell-requires : tie.Need-own-cell-requires
-own-cell-requires c κs = search needs
+start-at-requires : tie.Need-start-at-requires
+start-at-requires c κs = search needs
 
-mul-result : tie.Need-mul-result
-mul-result c = search needs
+mul-t14-2 : tie.Need-mul-t14-2
+mul-t14-2 c = search needs
+
+shared-slice-read-t16-2 : tie.Need-shared-slice-read-t16-2
+shared-slice-read-t16-2 c = search needs
 
 shared-slice-read-result : tie.Need-shared-slice-read-result
 shared-slice-read-result c = search needs
 
-mul-result-2 : tie.Need-mul-result-2
-mul-result-2 c = search needs
-
 shared-slice-read-result-2 : tie.Need-shared-slice-read-result-2
 shared-slice-read-result-2 c = search needs
 
-shared-slice-read-result-3 : tie.Need-shared-slice-read-result-3
-shared-slice-read-result-3 c = search needs
-
-shared-slice-read-result-4 : tie.Need-shared-slice-read-result-4
-shared-slice-read-result-4 c = search needs
-
 returns-2 : tie.Need-returns-2
 returns-2 c = λ n results x.
-    mutual-kept n _ _ _ results _ _ (c .before .before .before .before .before .before .before .before .before .before .before .cell-of .ensures .0) (c .before .before .before .before .before .before .before .before .before .place-of .ensures _ n (x .says) (x .low)) (c .before .before .before .before .before .before .before .opponent .given .1)
-    (c .before .before .before .before .before .cell-of2 .ensures .0) (c .before .before .before .before .own-cell .ensures .0)
+    mutual-kept n _ _ _ results _ _ (c .before .before .before .before .before .before .before .before .before .before .before .before .cell-of .ensures .0) (c .before .before .before .before .before .before .before .before .before .before .place-of .ensures _ n (x .says) (x .low)) (c .before .before .before .before .before .before .before .before .opponent .given .1)
+    (c .before .before .before .before .before .before .cell-of2 .ensures .0) (c .before .before .before .before .before .start-at .ensures)
 
 pub keeps-mutual-spec : {M : Type 1} → statement M
 keeps-mutual-spec =
     tie.close
     (tie.spec
     cell-of-requires
-    mul-id
-    shared-slice-read-id
+    mul-t14
+    shared-slice-read-t16
     place-of-requires
     enum-known-opponent
     enum-told
     returns
     cell-of-requires-2
-    own-cell-requires
-    mul-result
+    start-at-requires
+    mul-t14-2
+    shared-slice-read-t16-2
     shared-slice-read-result
-    mul-result-2
     shared-slice-read-result-2
-    shared-slice-read-result-3
-    shared-slice-read-result-4
     returns-2)
