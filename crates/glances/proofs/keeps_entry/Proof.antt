@@ -11,11 +11,11 @@ use Rattle.glances.proofs.keeps_entry.Tie as tie
 cell-of-requires : tie.Need-cell-of-requires
 cell-of-requires c κs = search needs
 
-mul-if2 : tie.Need-mul-if2
-mul-if2 c = search needs
+mul-t17 : tie.Need-mul-t17
+mul-t17 c = search needs
 
-shared-slice-read-if2 : tie.Need-shared-slice-read-if2
-shared-slice-read-if2 c = search needs
+shared-slice-read-t19 : tie.Need-shared-slice-read-t19
+shared-slice-read-t19 c = search needs
 
 shared-slice-read-colour : tie.Need-shared-slice-read-colour
 shared-slice-read-colour c = search needs
@@ -48,11 +48,11 @@ cell-of-requires-2 c κs =
     let found = told-player _ _ _ (c .before .before .before .before .before .before .place-of .ensures _ _ (x .says) (x .low)) (c .before .before .before .before .opponent .given .1) in
     (omega (arith, x .few, found), start .pre .0 .1, start .pre .0 .2)
 
-mul-if2-2 : tie.Need-mul-if2-2
-mul-if2-2 c = search needs
+mul-t17-2 : tie.Need-mul-t17-2
+mul-t17-2 c = search needs
 
-shared-slice-read-if2-2 : tie.Need-shared-slice-read-if2-2
-shared-slice-read-if2-2 c = search needs
+shared-slice-read-t19-2 : tie.Need-shared-slice-read-t19-2
+shared-slice-read-t19-2 c = search needs
 
 returns-3 : tie.Need-returns-3
 returns-3 c = λ e. clash e
@@ -75,16 +75,16 @@ are-one-game-requires c κs = search needs
 returns-5 : tie.Need-returns-5
 returns-5 c =
     λ t starts n s x.
-    game-keeps n starts _ _ _ _ _ (c .before .before .before .before .before .before .before .before .before .before .before .before .before .before .before .before .before .before .before .cell-of .ensures .0) (c .before .before .before .before .before .before .before .before .before .before .before .before .before .before .before .place-of .ensures starts n (x .says) (x .low)) (c .before .before .before .before .before .before .before .before .before .before .before .before .before .opponent .given .1) (c .before .before .before .before .before .before .before .before .cell-of2 .ensures .0) s
-    (c .before .before .before .before .before .before .before .before .before .if1 .left) (c .before .before .before .before .before .if2 .left) (c .before .before .before .are-opposite .ensures (not-false _ (c .before .before .if3 .left))) (c .are-one-game .ensures t)
+    game-keeps n starts _ _ _ _ _ (c .before .before .before .before .before .before .before .before .before .before .before .before .before .before .before .before .before .before .before .before .cell-of .ensures .0) (c .before .before .before .before .before .before .before .before .before .before .before .before .before .before .before .before .place-of .ensures starts n (x .says) (x .low)) (c .before .before .before .before .before .before .before .before .before .before .before .before .before .before .opponent .given .1) (c .before .before .before .before .before .before .before .before .before .cell-of2 .ensures .0) s
+    (c .before .before .before .before .before .before .before .before .before .before .if1 .left) (c .before .before .before .before .before .if2 .left) (c .before .before .before .are-opposite .ensures (not-false _ (c .before .before .if3 .left))) (c .are-one-game .ensures t)
 
 pub keeps-entry-spec : {M : Type 1} → statement M
 keeps-entry-spec =
     tie.close
     (tie.spec
     cell-of-requires
-    mul-if2
-    shared-slice-read-if2
+    mul-t17
+    shared-slice-read-t19
     shared-slice-read-colour
     shared-slice-read-result
     place-of-requires
@@ -94,8 +94,8 @@ keeps-entry-spec =
     returns
     returns-2
     cell-of-requires-2
-    mul-if2-2
-    shared-slice-read-if2-2
+    mul-t17-2
+    shared-slice-read-t19-2
     returns-3
     shared-slice-read-are-opposite
     are-opposite-requires

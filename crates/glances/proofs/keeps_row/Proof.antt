@@ -1,8 +1,7 @@
 -- `glances::keeps_row` meets its contract. The loop's invariant: the entries of the first j rounds keep the laws. Assumes nothing.
-use mathlib.Core.Path.{sym, ap}
+use mathlib.Core.Path.{sym}
 use native.Mathlib.Omega.{arith}
 use Prim.Native.Nat.{ℕ, _+_, _-_}
-use lib.ListN.{getD}
 use borrow.Author.Tests.{not-false}
 use borrow.Author.Count.{below-more}
 use Rattle.kit.proofs.Bools.{clash}
@@ -14,19 +13,13 @@ use Rattle.glances.proofs.keeps_row.Statement.{statement}
 use Rattle.glances.proofs.keeps_row.Tie as tie
 
 abbrev Inv-loop : tie.InvT-loop
-Inv-loop place starts opponents colours results index answers rounds own start j₀ j = (n : ℕ) → Indexed starts n index → KeepsRow n (four starts opponents colours results) (place .0) j
+Inv-loop place starts opponents colours results index answers rounds start j₀ j = (n : ℕ) → Indexed starts n index → KeepsRow n (four starts opponents colours results) (place .0) j
 
 abbrev μ-loop : tie.MeasureT-loop
-μ-loop place starts opponents colours results index answers rounds own start j₀ j = rounds - j
+μ-loop place starts opponents colours results index answers rounds start j₀ j = rounds - j
 
-own-cell-requires : tie.Need-own-cell-requires Inv-loop μ-loop
-own-cell-requires c κs = search needs
-
-mul-t12 : tie.Need-mul-t12 Inv-loop μ-loop
-mul-t12 c = search needs
-
-shared-slice-read-t14 : tie.Need-shared-slice-read-t14 Inv-loop μ-loop
-shared-slice-read-t14 c = search needs
+start-at-requires : tie.Need-start-at-requires Inv-loop μ-loop
+start-at-requires c κs = search needs
 
 loop-holds : tie.Need-loop-holds Inv-loop μ-loop
 loop-holds c = λ n x k l. absurd (omega arith)
@@ -36,7 +29,7 @@ add-keeps-entry c = search needs
 
 keeps-entry-requires : tie.Need-keeps-entry-requires Inv-loop μ-loop
 keeps-entry-requires c κs =
-    let start : tie.Start Inv-loop μ-loop = c .before .before .before .before .before .before .before .before in
+    let start : tie.Start Inv-loop μ-loop = c .before .before .before .before .before .before .before in
     let long = start .pre .1 .0 in
     ((start .pre .0 .0, omega arith, omega (arith, c .loop-test .taken, start .pre .0 .1)), (long .opponents-long, long .colours-long, long .results-long, start .pre .1 .1, start .pre .1 .2))
 
@@ -51,10 +44,10 @@ loop-less c = search needs
 
 loop-again : tie.Need-loop-again Inv-loop μ-loop
 loop-again c =
-    let a = c .before .before .before .before .before .before .before .before .before .before .args in
+    let a = c .before .before .before .before .before .before .before .before .before .args in
     λ n x.
     below-more (λ k. KeepsEntry n (four (a .starts .now) (a .opponents .now) (a .colours .now) (a .results .now)) (a .place .0) (k + 1)) (c .before .before .before .loop .j) (c .before .before .before .loop .inv n x)
-    (c .before .keeps-entry .ensures (not-false _ (c .if1 .left)) (a .starts .now) n (ap (λ (i : ℕ). getD (a .starts .now) i 0) (sym (c .before .before .before .before .before .own-cell .ensures .0))) x)
+    (c .before .keeps-entry .ensures (not-false _ (c .if1 .left)) (a .starts .now) n (sym (c .before .before .before .before .start-at .ensures)) x)
 
 returns-2 : tie.Need-returns-2 Inv-loop μ-loop
 returns-2 c = λ _ n x k l. c .before .loop .inv n x k (omega (arith, l, c .loop-test .left))
@@ -65,9 +58,7 @@ keeps-row-spec =
     (tie.spec
     Inv-loop
     μ-loop
-    own-cell-requires
-    mul-t12
-    shared-slice-read-t14
+    start-at-requires
     loop-holds
     add-keeps-entry
     keeps-entry-requires
