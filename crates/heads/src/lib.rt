@@ -8,12 +8,13 @@ ghost use Rattle.law.specs.Sizes.{mostRounds, mostAccelerations};
 ghost use Rattle.law.specs.Writing.{roundsLine, colourLine, scoringLine, accelerationLine};
 ghost use Rattle.puts.specs.Puts.{Puts};
 ghost use Rattle.puts.specs.Ends.{endWide, endedBy};
-ghost use Rattle.heads.specs.Lines.{spanText, accelerationWide, valueText, slotWide, scoringIn, scoringWide};
+ghost use Rattle.heads.specs.Lines.{spanText, spanWide, roundWide, startWide, accelerationWide, valueText, slotWide, scoringIn, scoringWide};
 use puts::BETWEEN;
 use puts::START_COLUMNS;
 use puts::Terminator;
 use types::Acceleration;
 use types::MOST_ACCELERATIONS;
+use types::StartNumber;
 
 // How many columns the rounds of a 250 line have.
 const ROUND_COLUMNS: usize = 3;
@@ -45,14 +46,30 @@ pub fn put_colour(out: &mut [u8], at: usize, colour: u8) -> usize
     puts::put_letter(out, at, colour)
 }
 
-// Two number fields of one width with a column between them, filled with zeros.
+// Two number fields of one width with a column between them, filled with zeros; `records::span_at` reads them.
 fn put_span(out: &mut [u8], at: usize, width: usize, first: u32, last: u32) -> usize
-    requires { ⌜ (1 ≤ width) × (at + (width + (1 + width)) ≤ length (now out)) ⌝ }
-    ensures { λ r. ⌜ Puts (spanText width first last) (width + (1 + width)) at (now (out .entry)) (now (out .exit)) r ⌝ }
+    requires { ⌜ (1 ≤ width) × (at + spanWide width ≤ length (now out)) ⌝ }
+    ensures { λ r. ⌜ Puts (spanText width first last) (spanWide width) at (now (out .entry)) (now (out .exit)) r ⌝ }
 {
     let at = puts::put_number(out, at, width, first, b'0');
     let at = puts::put_blanks(out, at, BETWEEN);
     puts::put_number(out, at, width, last, b'0')
+}
+
+// First and last round; `records::round_span_at` reads them.
+fn put_round_span(out: &mut [u8], at: usize, first: u32, last: u32) -> usize
+    requires { ⌜ at + spanWide roundWide ≤ length (now out) ⌝ }
+    ensures { λ r. ⌜ Puts (spanText roundWide first last) (spanWide roundWide) at (now (out .entry)) (now (out .exit)) r ⌝ }
+{
+    put_span(out, at, ROUND_COLUMNS, first, last)
+}
+
+// First and last start number; `records::start_span_at` reads them.
+fn put_start_span(out: &mut [u8], at: usize, first: StartNumber, last: StartNumber) -> usize
+    requires { ⌜ at + spanWide startWide ≤ length (now out) ⌝ }
+    ensures { λ r. ⌜ Puts (spanText startWide (first .0) (last .0)) (spanWide startWide) at (now (out .entry)) (now (out .exit)) r ⌝ }
+{
+    put_span(out, at, START_COLUMNS, first.0, last.0)
 }
 
 // 250; `records::acceleration_of` reads it.
@@ -64,9 +81,9 @@ fn put_acceleration(out: &mut [u8], at: usize, a: Acceleration) -> usize
     let at = puts::put_blanks(out, at, BEFORE_ADDED);
     let at = puts::put_points(out, at, a.points, b'0');
     let at = puts::put_blanks(out, at, BETWEEN);
-    let at = put_span(out, at, ROUND_COLUMNS, a.first_round, a.last_round);
+    let at = put_round_span(out, at, a.first_round, a.last_round);
     let at = puts::put_blanks(out, at, BETWEEN);
-    put_span(out, at, START_COLUMNS, a.first_start, a.last_start)
+    put_start_span(out, at, StartNumber(a.first_start), StartNumber(a.last_start))
 }
 
 // The first of the acceleration records, each with its terminator.

@@ -4,7 +4,7 @@ use mathlib.Core.List.{List, [], _++_}
 use Prim.Native.Nat.{ℕ}
 use borrow.Author.Needs.{needs}
 use Rattle.law.specs.Writing.{blanks, noughts, filled}
-use Rattle.puts.proofs.Puts.{puts-as, puts-then, puts-last, room-left, room-next, a-column}
+use Rattle.puts.proofs.Puts.{puts-as, puts-then, puts-last, room-left, room-next}
 use Rattle.heads.proofs.Lines.{span-before}
 use Rattle.heads.proofs.put_acceleration.Statement.{statement}
 use Rattle.heads.proofs.put_acceleration.Tie as tie
@@ -33,8 +33,8 @@ put-blanks-requires-2 c κs =
     let r2 = room-left (p2 .put-blanks .ensures) 22 r1 in
     room-next (p3 .put-points .ensures) 1 17 r2
 
-put-span-requires : tie.Need-put-span-requires
-put-span-requires c κs =
+put-round-span-requires : tie.Need-put-round-span-requires
+put-round-span-requires c κs =
     let p4 = c .before .before .before in
     let p3 = p4 .before .before .before .before in
     let p2 = p3 .before .before .before .before in
@@ -42,7 +42,7 @@ put-span-requires c κs =
     let r1 = room-left (p1 .put-code .ensures) 28 (p1 .before .before .before .pre) in
     let r2 = room-left (p2 .put-blanks .ensures) 22 r1 in
     let r3 = room-left (p3 .put-points .ensures) 18 r2 in
-    (a-column 2, room-next (p4 .put-blanks2 .ensures) 7 10 r3)
+    room-next (p4 .put-blanks2 .ensures) 7 10 r3
 
 put-blanks-requires-3 : tie.Need-put-blanks-requires-3
 put-blanks-requires-3 c κs =
@@ -55,10 +55,10 @@ put-blanks-requires-3 c κs =
     let r2 = room-left (p2 .put-blanks .ensures) 22 r1 in
     let r3 = room-left (p3 .put-points .ensures) 18 r2 in
     let r4 = room-left (p4 .put-blanks2 .ensures) 17 r3 in
-    room-next (p5 .put-span .ensures) 1 9 r4
+    room-next (p5 .put-round-span .ensures) 1 9 r4
 
-put-span-requires-2 : tie.Need-put-span-requires-2
-put-span-requires-2 c κs =
+put-start-span-requires : tie.Need-put-start-span-requires
+put-start-span-requires c κs =
     let p6 = c .before .before .before in
     let p5 = p6 .before .before .before .before in
     let p4 = p5 .before .before .before .before in
@@ -69,8 +69,8 @@ put-span-requires-2 c κs =
     let r2 = room-left (p2 .put-blanks .ensures) 22 r1 in
     let r3 = room-left (p3 .put-points .ensures) 18 r2 in
     let r4 = room-left (p4 .put-blanks2 .ensures) 17 r3 in
-    let r5 = room-left (p5 .put-span .ensures) 10 r4 in
-    (a-column 3, room-next (p6 .put-blanks3 .ensures) 9 0 r5)
+    let r5 = room-left (p5 .put-round-span .ensures) 10 r4 in
+    room-next (p6 .put-blanks3 .ensures) 9 0 r5
 
 returns : tie.Need-returns
 returns c =
@@ -84,8 +84,8 @@ returns c =
     let a = p1 .before .before .before .args .a in
     let starts : List ℕ = filled noughts 4 (a .«first_start») ++ (blanks 1 ++ (filled noughts 4 (a .«last_start») ++ [])) in
     puts-then (p1 .put-code .ensures) (puts-then (p2 .put-blanks .ensures) (puts-then (p3 .put-points .ensures) (puts-then (p4 .put-blanks2 .ensures)
-    (puts-as (span-before 3 (a .«first_round») (a .«last_round») (blanks 1 ++ starts)) refl refl (puts-then (p5 .put-span .ensures)
-    (puts-then (p6 .put-blanks3 .ensures) (puts-as (span-before 4 (a .«first_start») (a .«last_start») []) refl refl (puts-last (p7 .put-span2 .ensures)))))))))
+    (puts-as (span-before 3 (a .«first_round») (a .«last_round») (blanks 1 ++ starts)) refl refl (puts-then (p5 .put-round-span .ensures)
+    (puts-then (p6 .put-blanks3 .ensures) (puts-as (span-before 4 (a .«first_start») (a .«last_start») []) refl refl (puts-last (p7 .put-start-span .ensures)))))))))
 
 same-length : tie.Need-same-length
 same-length c = returns c .long
@@ -98,8 +98,8 @@ put-acceleration-spec =
     put-blanks-requires
     put-points-requires
     put-blanks-requires-2
-    put-span-requires
+    put-round-span-requires
     put-blanks-requires-3
-    put-span-requires-2
+    put-start-span-requires
     same-length
     returns)
