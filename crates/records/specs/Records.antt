@@ -19,6 +19,8 @@ use Rattle.records.specs.declared.Initial.{Initial}
 use Rattle.records.specs.declared.Initial.the-variants as initial
 use Rattle.records.specs.declared.Span.{Span}
 use Rattle.records.specs.declared.Span.the-variants as span
+use Rattle.records.specs.declared.StartSpan.{StartSpan}
+use Rattle.records.specs.declared.StartSpan.the-variants as startSpan
 use Rattle.records.specs.declared.Accelerated.{Accelerated}
 use Rattle.records.specs.declared.Accelerated.the-variants as accelerated
 
@@ -64,6 +66,10 @@ spanIn row i w = pair (theNumber (numberOf (cells row i w))) (theNumber (numberO
 abbrev pub spanSays : Span → Said (ℕ × ℕ)
 spanSays (span.FromTo first last) = says (first, last)
 spanSays span.Bad = refuses 7
+
+abbrev pub startSpanSays : StartSpan → Said (ℕ × ℕ)
+startSpanSays (startSpan.FromTo first last) = says (first .0, last .0)
+startSpanSays startSpan.Bad = refuses 7
 
 abbrev pub acceleratedSays : Accelerated → Said Acceleration
 acceleratedSays (accelerated.Record a) = says a

@@ -6,6 +6,7 @@ use fields::Points;
 use types::Acceleration;
 use types::MOST_POINTS;
 use types::MOST_START;
+use types::StartNumber;
 ghost use mathlib.Core.Path.{_≡_};
 ghost use mathlib.Core.List.{[], _∷_};
 ghost use Prim.Native.Nat.{_≤_};
@@ -21,7 +22,7 @@ ghost use Rattle.law.specs.Accelerations.{isAcceleration, accelerationFields};
 ghost use Rattle.law.specs.Items.{kindOf, isPassed};
 ghost use Rattle.law.proofs.RecordsRead.{textOf, roundsOfRow, colourOf, accelerationOf};
 ghost use Rattle.fields.specs.Said.{orBadField};
-ghost use Rattle.records.specs.Records.{kindSays, orNotListed, textSays, roundsSays, initialSays, spanIn, spanSays, acceleratedSays};
+ghost use Rattle.records.specs.Records.{kindSays, orNotListed, textSays, roundsSays, initialSays, spanIn, spanSays, startSpanSays, acceleratedSays};
 
 const MOST_ROUNDS: u32 = types::MOST_ROUNDS as u32;
 
@@ -90,9 +91,14 @@ fn is_text(line: &[u8]) -> bool
     )
 }
 
-// First and last of something.
+// First and last of something, and of start numbers.
 enum Span {
     FromTo(u32, u32),
+    Bad,
+}
+
+enum StartSpan {
+    FromTo(StartNumber, StartNumber),
     Bad,
 }
 
@@ -268,6 +274,23 @@ fn span_at(line: &[u8], from: usize, width: usize) -> Span
     Span::FromTo(first, last)
 }
 
+// First and last round.
+fn round_span_at(line: &[u8]) -> Span
+    ensures { λ r. ⌜ spanSays r ≡ orBadField (spanIn (now (line .entry)) 14 3) ⌝ }
+{
+    span_at(line, 14, 3)
+}
+
+// First and last start number.
+fn start_span_at(line: &[u8]) -> StartSpan
+    ensures { λ r. ⌜ startSpanSays r ≡ orBadField (spanIn (now (line .entry)) 22 4) ⌝ }
+{
+    let Span::FromTo(first, last) = span_at(line, 22, 4) else {
+        return StartSpan::Bad;
+    };
+    StartSpan::FromTo(StartNumber(first), StartNumber(last))
+}
+
 pub fn acceleration_of(line: &[u8]) -> Accelerated
     ensures { λ r. ⌜ acceleratedSays r ≡ orBadField (accelerationOf (now (line .entry))) ⌝ }
 {
@@ -277,18 +300,18 @@ pub fn acceleration_of(line: &[u8]) -> Accelerated
     let Points::Tenths(points) = fields::points_at(line, 9) else {
         return Accelerated::Bad;
     };
-    let Span::FromTo(first_round, last_round) = span_at(line, 14, 3) else {
+    let Span::FromTo(first_round, last_round) = round_span_at(line) else {
         return Accelerated::Bad;
     };
-    let Span::FromTo(first_start, last_start) = span_at(line, 22, 4) else {
+    let StartSpan::FromTo(first, last) = start_span_at(line) else {
         return Accelerated::Bad;
     };
     let a = Acceleration {
         points,
         first_round,
         last_round,
-        first_start,
-        last_start,
+        first_start: first.0,
+        last_start: last.0,
     };
     if !is_acceleration(a) {
         return Accelerated::Bad;
