@@ -88,10 +88,10 @@ pub fn ranks_are(ranks: &[u32], n: usize) -> bool
 }
 
 // From which round on, counted from 0, a place's cells are unused: past the rounds of a player, all of a place that no player has.
-fn unused_from(p: usize, players: usize, rounds: u32) -> usize
-    ensures { λ r. ⌜ r ≡ unusedFrom players rounds p ⌝ }
+fn unused_from(place: Place, players: usize, rounds: u32) -> usize
+    ensures { λ r. ⌜ r ≡ unusedFrom players rounds (place .0) ⌝ }
 {
-    if p < players {
+    if (place.0 as usize) < players {
         return rounds as usize;
     }
     0
@@ -134,8 +134,9 @@ pub fn entries_unused_numbers(t: &[u32], players: usize, rounds: u32) -> bool
     let mut good = true;
     let mut p = 0;
     while p < MOST_PLAYERS {
-        let from = unused_from(p, players, rounds);
-        good = good & row_unused_numbers(t, Place(p as u32), from);
+        let place = Place(p as u32);
+        let from = unused_from(place, players, rounds);
+        good = good & row_unused_numbers(t, place, from);
         p += 1;
     }
     good
@@ -148,8 +149,9 @@ pub fn entries_unused_letters(t: &[u8], players: usize, rounds: u32) -> bool
     let mut good = true;
     let mut p = 0;
     while p < MOST_PLAYERS {
-        let from = unused_from(p, players, rounds);
-        good = good & row_unused_letters(t, Place(p as u32), from);
+        let place = Place(p as u32);
+        let from = unused_from(place, players, rounds);
+        good = good & row_unused_letters(t, place, from);
         p += 1;
     }
     good
