@@ -88,13 +88,7 @@ fn is_game_result(result: u8) -> bool
 }
 
 // Whether an entry of the player with a start number is a game. opponent: whom its id names.
-fn is_game(
-    id: StartNumber,
-    colour: u8,
-    result: u8,
-    start: StartNumber,
-    opponent: Placed,
-) -> bool
+fn is_game(id: StartNumber, colour: u8, result: u8, start: StartNumber, opponent: Placed) -> bool
     ensures { λ r. ⌜ ((o : Option ℕ) → opponent ≡ asPlaced o → r ≡ isGameBy (entry (id .0) colour result) (start .0) o) ⌝ }
 {
     let Placed::At(_) = opponent else {

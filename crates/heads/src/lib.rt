@@ -83,7 +83,12 @@ fn put_acceleration(out: &mut [u8], at: usize, a: Acceleration) -> usize
     let at = puts::put_blanks(out, at, BETWEEN);
     let at = put_round_span(out, at, a.first_round, a.last_round);
     let at = puts::put_blanks(out, at, BETWEEN);
-    put_start_span(out, at, StartNumber(a.first_start), StartNumber(a.last_start))
+    put_start_span(
+        out,
+        at,
+        StartNumber(a.first_start),
+        StartNumber(a.last_start),
+    )
 }
 
 // The first of the acceleration records, each with its terminator.

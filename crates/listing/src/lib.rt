@@ -106,7 +106,13 @@ fn put_entries(
     while round < rounds {
         round += 1;
         let cell = tables::cell_of(place, round);
-        end = put_entry(out, end, StartNumber(opponents[cell]), colours[cell], results[cell]);
+        end = put_entry(
+            out,
+            end,
+            StartNumber(opponents[cell]),
+            colours[cell],
+            results[cell],
+        );
     }
     end
 }

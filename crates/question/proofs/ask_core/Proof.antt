@@ -3,7 +3,7 @@ use mathlib.Core.Path.{_≡_, sym, ap, _∙_}
 use Prim.Native.Nat.{ℕ}
 use native.Mathlib.Omega.{arith}
 use borrow.Author.Tests.{not-true, not-false}
-use lib.ListN.{length, getD, take}
+use lib.ListN.{length, take}
 use denote.Ref.{now}
 use borrow.Author.Needs.{needs}
 use Rattle.kit.specs.Lists.{first}
@@ -69,8 +69,8 @@ returns-3 c =
     let e = c .before .before .before .before .before .before .enough .ensures in
     λ records given. core-outside (a .answer) t (a .accelerations) (a .place) (a .round) records given (sym e ∙ not-false _ (c .before .before .before .before .before .if1 .left)) (c .before .before .before .before .is-reading .ensures) (not-false _ (c .before .before .before .if2 .left)) (sym (c .before .before .is-inside .ensures) ∙ not-true _ (c .before .if3 .taken)) (c .refused3 .ensures)
 
-own-cell-requires : tie.Need-own-cell-requires
-own-cell-requires c κs =
+start-at-requires : tie.Need-start-at-requires
+start-at-requires c κs =
     let s = c .before .before .before .before .before .before .before .before .before .before .before .before .before .before .before in
     let a = s .args in
     let t = tablesOf (now (a .starts)) (now (a .points)) (now (a .ranks)) (now (a .kept)) (now (a .opponents)) (now (a .colours)) (now (a .results)) (now (a .text)) (a .all) in
@@ -79,13 +79,13 @@ own-cell-requires c κs =
     let g = c .before .before .before .before .is-reading .ensures .sound (not-false _ (c .before .before .before .if2 .left)) in
     let w = inside (a .answer) (a .place) (a .round) (sym (c .before .before .is-inside .ensures) ∙ not-false _ (c .before .if3 .left)) in
     let k = rooms-are t (all-long t (a .accelerations) (sym e ∙ not-false _ (c .before .before .before .before .before .if1 .left)) (omega arith)) in
-    omega (arith, w .0, g .answer .players-fit)
+    omega (arith, w .0, g .answer .players-fit, k .starts)
 
-mul-t19 : tie.Need-mul-t19
-mul-t19 c = search needs
+cast-n : tie.Need-cast-n
+cast-n c = search needs
 
-shared-slice-read-t30 : tie.Need-shared-slice-read-t30
-shared-slice-read-t30 c =
+sub-sum-of : tie.Need-sub-sum-of
+sub-sum-of c =
     let s = c .before .before .before .before .before .before .before .before .before .before .before .before .before .before .before .before .before in
     let a = s .args in
     let t = tablesOf (now (a .starts)) (now (a .points)) (now (a .ranks)) (now (a .kept)) (now (a .opponents)) (now (a .colours)) (now (a .results)) (now (a .text)) (a .all) in
@@ -94,27 +94,22 @@ shared-slice-read-t30 c =
     let g = c .before .before .before .before .before .before .is-reading .ensures .sound (not-false _ (c .before .before .before .before .before .if2 .left)) in
     let w = inside (a .answer) (a .place) (a .round) (sym (c .before .before .before .before .is-inside .ensures) ∙ not-false _ (c .before .before .before .if3 .left)) in
     let k = rooms-are t (all-long t (a .accelerations) (sym e ∙ not-false _ (c .before .before .before .before .before .before .before .if1 .left)) (omega arith)) in
-    let m = k .starts in
-    let o = c .before .own-cell .ensures in
-    search needs
-
-cast-n : tie.Need-cast-n
-cast-n c = search needs
-
-sub-sum-of : tie.Need-sub-sum-of
-sub-sum-of c =
-    let s = c .before .before .before .before .before .before .before .before .before .before .before .before .before .before .before .before .before .before in
-    let a = s .args in
-    let t = tablesOf (now (a .starts)) (now (a .points)) (now (a .ranks)) (now (a .kept)) (now (a .opponents)) (now (a .colours)) (now (a .results)) (now (a .text)) (a .all) in
-    let m : length (a .all) ≡ mostAccelerations = s .good .1 .1 .1 .1 .1 .1 .1 .1 .1 .0 .1 .0 .1 in
-    let e = c .before .before .before .before .before .before .before .before .before .enough .ensures in
-    let g = c .before .before .before .before .before .before .before .is-reading .ensures .sound (not-false _ (c .before .before .before .before .before .before .if2 .left)) in
-    let w = inside (a .answer) (a .place) (a .round) (sym (c .before .before .before .before .before .is-inside .ensures) ∙ not-false _ (c .before .before .before .before .if3 .left)) in
-    let k = rooms-are t (all-long t (a .accelerations) (sym e ∙ not-false _ (c .before .before .before .before .before .before .before .before .if1 .left)) (omega arith)) in
     w .1
 
 sum-of-requires : tie.Need-sum-of-requires
 sum-of-requires c κs =
+    let s = c .before .before .before .before .before .before .before .before .before .before .before .before .before .before .before .before .before in
+    let a = s .args in
+    let t = tablesOf (now (a .starts)) (now (a .points)) (now (a .ranks)) (now (a .kept)) (now (a .opponents)) (now (a .colours)) (now (a .results)) (now (a .text)) (a .all) in
+    let m : length (a .all) ≡ mostAccelerations = s .good .1 .1 .1 .1 .1 .1 .1 .1 .1 .0 .1 .0 .1 in
+    let e = c .before .before .before .before .before .before .before .before .enough .ensures in
+    let g = c .before .before .before .before .before .before .is-reading .ensures .sound (not-false _ (c .before .before .before .before .before .if2 .left)) in
+    let w = inside (a .answer) (a .place) (a .round) (sym (c .before .before .before .before .is-inside .ensures) ∙ not-false _ (c .before .before .before .if3 .left)) in
+    let k = rooms-are t (all-long t (a .accelerations) (sym e ∙ not-false _ (c .before .before .before .before .before .before .before .if1 .left)) (omega arith)) in
+    (omega (arith, w .0, g .answer .players-fit), omega (arith, w .2, g .answer .rounds-fit), k .results, g .answer .small)
+
+acceleration-for-requires : tie.Need-acceleration-for-requires
+acceleration-for-requires c κs =
     let s = c .before .before .before .before .before .before .before .before .before .before .before .before .before .before .before .before .before .before in
     let a = s .args in
     let t = tablesOf (now (a .starts)) (now (a .points)) (now (a .ranks)) (now (a .kept)) (now (a .opponents)) (now (a .colours)) (now (a .results)) (now (a .text)) (a .all) in
@@ -123,10 +118,11 @@ sum-of-requires c κs =
     let g = c .before .before .before .before .before .before .before .is-reading .ensures .sound (not-false _ (c .before .before .before .before .before .before .if2 .left)) in
     let w = inside (a .answer) (a .place) (a .round) (sym (c .before .before .before .before .before .is-inside .ensures) ∙ not-false _ (c .before .before .before .before .if3 .left)) in
     let k = rooms-are t (all-long t (a .accelerations) (sym e ∙ not-false _ (c .before .before .before .before .before .before .before .before .if1 .left)) (omega arith)) in
-    (omega (arith, w .0, g .answer .players-fit), omega (arith, w .2, g .answer .rounds-fit), k .results, g .answer .small)
+    g .answer .accelerations-fit
 
-acceleration-for-requires : tie.Need-acceleration-for-requires
-acceleration-for-requires c κs =
+returns-4 : tie.Need-returns-4
+unfolding scoreAnswer
+returns-4 c =
     let s = c .before .before .before .before .before .before .before .before .before .before .before .before .before .before .before .before .before .before .before in
     let a = s .args in
     let t = tablesOf (now (a .starts)) (now (a .points)) (now (a .ranks)) (now (a .kept)) (now (a .opponents)) (now (a .colours)) (now (a .results)) (now (a .text)) (a .all) in
@@ -135,20 +131,7 @@ acceleration-for-requires c κs =
     let g = c .before .before .before .before .before .before .before .before .is-reading .ensures .sound (not-false _ (c .before .before .before .before .before .before .before .if2 .left)) in
     let w = inside (a .answer) (a .place) (a .round) (sym (c .before .before .before .before .before .before .is-inside .ensures) ∙ not-false _ (c .before .before .before .before .before .if3 .left)) in
     let k = rooms-are t (all-long t (a .accelerations) (sym e ∙ not-false _ (c .before .before .before .before .before .before .before .before .before .if1 .left)) (omega arith)) in
-    g .answer .accelerations-fit
-
-returns-4 : tie.Need-returns-4
-unfolding scoreAnswer
-returns-4 c =
-    let s = c .before .before .before .before .before .before .before .before .before .before .before .before .before .before .before .before .before .before .before .before in
-    let a = s .args in
-    let t = tablesOf (now (a .starts)) (now (a .points)) (now (a .ranks)) (now (a .kept)) (now (a .opponents)) (now (a .colours)) (now (a .results)) (now (a .text)) (a .all) in
-    let m : length (a .all) ≡ mostAccelerations = s .good .1 .1 .1 .1 .1 .1 .1 .1 .1 .0 .1 .0 .1 in
-    let e = c .before .before .before .before .before .before .before .before .before .before .before .enough .ensures in
-    let g = c .before .before .before .before .before .before .before .before .before .is-reading .ensures .sound (not-false _ (c .before .before .before .before .before .before .before .before .if2 .left)) in
-    let w = inside (a .answer) (a .place) (a .round) (sym (c .before .before .before .before .before .before .before .is-inside .ensures) ∙ not-false _ (c .before .before .before .before .before .before .if3 .left)) in
-    let k = rooms-are t (all-long t (a .accelerations) (sym e ∙ not-false _ (c .before .before .before .before .before .before .before .before .before .before .if1 .left)) (omega arith)) in
-    λ records given. core-inside (a .answer) t (a .accelerations) (a .place) (a .round) records given (sym e ∙ not-false _ (c .before .before .before .before .before .before .before .before .before .before .if1 .left)) (c .before .before .before .before .before .before .before .before .before .is-reading .ensures) (not-false _ (c .before .before .before .before .before .before .before .before .if2 .left)) (sym (c .before .before .before .before .before .before .before .is-inside .ensures) ∙ not-false _ (c .before .before .before .before .before .before .if3 .left)) (g .answer .accelerations-fit) (c .before .sum-of .ensures) (c .acceleration-for .ensures ∙ ap (λ (i : ℕ). pointsOr0 (first (covers (getD (now (a .starts)) i 0) (a .round)) (take (a .answer .accelerations) (a .all)))) (c .before .before .before .before .own-cell .ensures .0))
+    λ records given. core-inside (a .answer) t (a .accelerations) (a .place) (a .round) records given (sym e ∙ not-false _ (c .before .before .before .before .before .before .before .before .before .if1 .left)) (c .before .before .before .before .before .before .before .before .is-reading .ensures) (not-false _ (c .before .before .before .before .before .before .before .if2 .left)) (sym (c .before .before .before .before .before .before .is-inside .ensures) ∙ not-false _ (c .before .before .before .before .before .if3 .left)) (g .answer .accelerations-fit) (c .before .sum-of .ensures) (c .acceleration-for .ensures ∙ ap (λ (start : ℕ). pointsOr0 (first (covers start (a .round)) (take (a .answer .accelerations) (a .all)))) (c .before .before .before .start-at .ensures))
 
 pub ask-core-spec : {M : Type 1} → statement M
 ask-core-spec =
@@ -163,9 +146,7 @@ ask-core-spec =
     is-inside-requires
     refused-requires-3
     returns-3
-    own-cell-requires
-    mul-t19
-    shared-slice-read-t30
+    start-at-requires
     cast-n
     sub-sum-of
     sum-of-requires
