@@ -5,12 +5,12 @@ use mathlib.Core.Option.{Option}
 use mathlib.Core.List.{List, [], _∷_}
 use Prim.Native.Nat.{ℕ, zero, suc, _+_, _-_, _≤_, _<_}
 use Prim.Native.Char.{code}
-use native.Mathlib.Decide.{ℕ-discrete}
+use native.Mathlib.Decide.{decLt, ℕ-discrete}
 use native.Mathlib.Nat.{add-zero}
 use native.Mathlib.Numerals.{add-one}
 use native.Mathlib.Omega.{arith}
 use lib.Dec.{eqb}
-use lib.ListN.{length, getD, drop, set, length-set, drop-of-length-le}
+use lib.ListN.{length, getD, drop, set, replicate, length-set, length-replicate, getD-replicate, List·getD-eq-default, drop-of-length-le}
 use lib.Seq.{getD-set-same, getD-set-other, drop-cons, ext-getD}
 use borrow.Author.Tests.{eq-eqb, ne-eqb, eqb-true}
 use Rattle.kit.specs.Ascii.{ascii}
@@ -35,18 +35,19 @@ getD-cells row i (suc w) (suc j) h =
     let e : suc i + j ≡ i + suc j = omega arith in
     ap (λ (l : List ℕ). getD l (suc j) 0) (cells-cons row i w) ∙ getD-cells row (suc i) w j (omega arith) ∙ ap (λ (k : ℕ). getD row k blank) e
 
--- ---- an array of w bytes, of which the first i are the columns after the first `at`
+-- ---- an array of w blanks, of which the first i are filled from the columns after the first `at`
 pub record Filled (row : List ℕ) (at w : ℕ) (k : List ℕ) (i : ℕ) : Type 0 where
   pub long : length k ≡ w
   pub holds : (j : ℕ) → j < i → getD k j 0 ≡ getD row (at + j) blank
+  pub rest : (j : ℕ) → i ≤ j → j < w → getD k j 0 ≡ blank
 
 module _ (row : List ℕ) (at w : ℕ) where
-  pub filled-none : (k : List ℕ) → length k ≡ w → Filled row at w k 0
-  filled-none k l = record { long = l; holds = λ j h. absurd (omega arith) }
+  pub filled-none : Filled row at w (replicate w blank) 0
+  filled-none = record { long = length-replicate {A = ℕ} w blank; holds = λ j h. absurd (omega arith); rest = λ j h l. getD-replicate {A = ℕ} w j blank 0 l }
 
   module _ (k : List ℕ) (i : ℕ) (f : Filled row at w k i) where
     pub filled-more : i < w → at + i < length row → Filled row at w (set k i (getD row (at + i) 0)) (i + 1)
-    filled-more p q = record { long = length-set k i (getD row (at + i) 0) ∙ f .long; holds = λ j h. go j h (ℕ-discrete j i) }
+    filled-more p q = record { long = length-set k i (getD row (at + i) 0) ∙ f .long; holds = λ j h. go j h (ℕ-discrete j i); rest = λ j h l. after j h l }
       where
         go : (j : ℕ) → j < i + 1 → Dec (j ≡ i) → getD (set k i (getD row (at + i) 0)) j 0 ≡ getD row (at + j) blank
         go j h (yes e) =
@@ -55,10 +56,18 @@ module _ (row : List ℕ) (at w : ℕ) where
             ∙ getD-any row (at + i) 0 blank q ∙ ap (λ (x : ℕ). getD row (at + x) blank) (sym e)
         go j h (no n) = let m : j ≡ i → ⊥ = n in getD-set-other k i j (getD row (at + i) 0) 0 m ∙ f .holds j (omega arith)
 
-    pub filled-all : w ≤ i → k ≡ cells row at w
-    filled-all h =
+        after : (j : ℕ) → i + 1 ≤ j → j < w → getD (set k i (getD row (at + i) 0)) j 0 ≡ blank
+        after j h l = let m : j ≡ i → ⊥ = λ e. omega (arith, e) in getD-set-other k i j (getD row (at + i) 0) 0 m ∙ f .rest j (omega arith) l
+
+    -- where the line has the columns up to here, and no more of the w
+    pub filled-all : i ≤ w → (i < w → length row - at ≤ i) → k ≡ cells row at w
+    filled-all h ends =
         let l = f .long in
-        ext-getD 0 k (cells row at w) (l ∙ sym (length-cells row at w)) (λ j p. let q : j < w = omega arith in f .holds j (omega arith) ∙ sym (getD-cells row at w j q))
+        ext-getD 0 k (cells row at w) (l ∙ sym (length-cells row at w)) (λ j p. let q : j < w = omega arith in by j q (decLt j i) ∙ sym (getD-cells row at w j q))
+      where
+        by : (j : ℕ) → j < w → Dec (j < i) → getD k j 0 ≡ getD row (at + j) blank
+        by j q (yes p) = f .holds j p
+        by j q (no n) = let p : j < i → ⊥ = n in let e : length row - at ≤ i = ends (omega arith) in f .rest j (omega arith) q ∙ sym (List·getD-eq-default row blank (omega arith))
 
 -- ---- sex and title
 pub sex-by : (c : ℕ) → isOneOf (c ∷ []) sexes ≡ among c (ascii "mw ")

@@ -4,29 +4,45 @@ use types::KEPT_COLUMNS;
 ghost use mathlib.Core.Path.{_≡_};
 ghost use mathlib.Core.List.{[], _∷_};
 ghost use Prim.Native.Nat.{_≤_, _<_};
-ghost use lib.ListN.{length, getD};
+ghost use lib.ListN.{getD};
 ghost use Rattle.kit.specs.Lists.{among, isOneOf};
 ghost use Rattle.law.specs.Columns.{cells, part, elseBlank};
 ghost use Rattle.law.specs.Fields.{hasShape};
 ghost use Rattle.law.specs.Players.{keptField, keptFields, inLine, sexes, titles, isBirth};
 ghost use Rattle.law.proofs.RecordsRead.{isKept};
-ghost use Rattle.kept_columns.specs.Kept.{grades, fitsShape, dateShape};
+ghost use Rattle.kept_columns.specs.Kept.{Has, grades, fitsShape, dateShape};
 
 // How many columns stand before the kept ones.
 const BEFORE_KEPT: usize = 9;
 
-// The 70 columns 10-79 of a line that has them all: no column is tested.
-pub fn kept_of(line: &[u8]) -> [u8; KEPT_COLUMNS]
-    requires { ⌜ keptField .1 ≤ length (now line) ⌝ }
+// The columns up to the last kept one.
+const KEPT_END: usize = BEFORE_KEPT + KEPT_COLUMNS;
+
+// Blanks, filled from a line that has this many of the kept columns.
+fn filled(line: &[u8], there: usize) -> [u8; KEPT_COLUMNS]
+    requires { ⌜ Has (now line) there ⌝ }
     ensures { λ r. ⌜ r ≡ part keptField (now (line .entry)) ⌝ }
 {
     let mut kept = [b' '; KEPT_COLUMNS];
     let mut i = 0;
-    while i < KEPT_COLUMNS {
+    while i < there {
         kept[i] = line[BEFORE_KEPT + i];
         i += 1;
     }
     kept
+}
+
+// The 70 columns 10-79 of a line; "Columns past the end of a line read as blank." A line that has them all is asked first, so that its loop has a known end.
+pub fn kept_of(line: &[u8]) -> [u8; KEPT_COLUMNS]
+    ensures { λ r. ⌜ r ≡ part keptField (now (line .entry)) ⌝ }
+{
+    if KEPT_END <= line.len() {
+        return filled(line, KEPT_COLUMNS);
+    }
+    if line.len() < BEFORE_KEPT {
+        return filled(line, 0);
+    }
+    filled(line, line.len() - BEFORE_KEPT)
 }
 
 fn is_sex(c: u8) -> bool

@@ -1,19 +1,18 @@
--- `kept_columns::kept_of` meets its contract. The loop's invariant: the first i kept columns are those of the line. Assumes nothing.
-use Prim.Native.Nat.{ℕ, _≤_, _-_}
-use lib.ListN.{length-replicate}
+-- `kept_columns::filled` meets its contract. The loop's invariant: the first i kept columns are those of the line, the others are blank. Assumes nothing.
+use Prim.Native.Nat.{_≤_, _-_}
 use Rattle.kept_columns.proofs.KeptColumns.{Filled, filled-none, filled-more, filled-all}
 use borrow.Author.Needs.{needs}
-use Rattle.kept_columns.proofs.kept_of.Statement.{statement}
-use Rattle.kept_columns.proofs.kept_of.Tie as tie
+use Rattle.kept_columns.proofs.filled.Statement.{statement}
+use Rattle.kept_columns.proofs.filled.Tie as tie
 
 abbrev Inv-loop : tie.InvT-loop
-Inv-loop line kept₀ i₀ kept i = (i ≤ 70) × Filled line 9 70 kept i
+Inv-loop line there kept₀ i₀ kept i = (i ≤ there) × Filled line 9 70 kept i
 
 abbrev μ-loop : tie.MeasureT-loop
-μ-loop line kept₀ i₀ kept i = 70 - i
+μ-loop line there kept₀ i₀ kept i = there - i
 
 loop-holds : tie.Need-loop-holds Inv-loop μ-loop
-loop-holds c = (search needs, filled-none (c .args .line .now) 9 70 _ (length-replicate {A = ℕ} 70 32))
+loop-holds c = (search needs, filled-none (c .args .line .now) 9 70)
 
 add-kept : tie.Need-add-kept Inv-loop μ-loop
 add-kept c = search needs
@@ -37,10 +36,13 @@ loop-again c =
     (search needs, filled-more line 9 70 (l .loop .kept) (l .loop .i) (l .loop .inv .1) (search needs) (search needs))
 
 returns : tie.Need-returns Inv-loop μ-loop
-returns c = filled-all (c .before .before .args .line .now) 9 70 (c .before .loop .kept) (c .before .loop .i) (c .before .loop .inv .1) (search needs)
+returns c =
+    let l = c .before in
+    let has = l .before .pre in
+    filled-all (l .before .args .line .now) 9 70 (l .loop .kept) (l .loop .i) (l .loop .inv .1) (search needs) (λ h. let e = has .ends (search needs) in search needs)
 
-pub kept-of-spec : {M : Type 1} → statement M
-kept-of-spec =
+pub filled-spec : {M : Type 1} → statement M
+filled-spec =
     tie.close
     (tie.spec
     Inv-loop
