@@ -3,6 +3,8 @@ ghost use lib.ListN.{length};
 ghost use Rattle.io.specs.Counts.{Counts};
 ghost use Rattle.listing.specs.Outcomes.{Lists};
 ghost use Rattle.listed.specs.Input.{BytesIn};
+ghost use Rattle.listed.specs.Printed.{Numbered, Says};
+use libc::STDERR_FILENO;
 use libc::STDOUT_FILENO;
 use listing::ANSWER_LINE;
 use listing::LISTING;
@@ -17,10 +19,17 @@ use types::MOST_TEXT;
 // One byte more than the largest file, so that a larger one is seen to be larger: no more is read of it.
 pub const MOST_READ: usize = types::MOST_FILE + 1;
 
-// The bytes of a file's listing, from the first byte of `out` on, and how many there are.
-pub fn list_file(file: &[u8], out: &mut [u8; LISTING]) -> usize
-    ensures { λ r. ⌜ Counts r (now (out .exit)) ⌝ }
-    ensures { λ r. ⌜ Lists (now (file .entry)) (now (out .entry)) r (now (out .exit)) ⌝ }
+// The number of a file's refusal, 0 where it is accepted, and how many bytes its listing has.
+pub struct Listed {
+    pub number: u32,
+    pub length: usize,
+}
+
+// The bytes of a file's listing, from the first byte of `out` on.
+pub fn list_file(file: &[u8], out: &mut [u8; LISTING]) -> Listed
+    ensures { λ r. ⌜ Counts (r .length) (now (out .exit)) ⌝ }
+    ensures { λ r. ⌜ Lists (now (file .entry)) (now (out .entry)) (r .length) (now (out .exit)) ⌝ }
+    ensures { λ r. ⌜ Numbered (now (file .entry)) (r .number) ⌝ }
 {
     let mut starts = [0u32; MOST_PLAYERS];
     let mut points = [0u32; MOST_PLAYERS];
@@ -45,7 +54,7 @@ pub fn list_file(file: &[u8], out: &mut [u8; LISTING]) -> usize
         MOST_ACCELERATIONS,
     );
     let answer = core.answer;
-    listing::put_listing(
+    let length = listing::put_listing(
         out,
         answer,
         &starts,
@@ -54,21 +63,45 @@ pub fn list_file(file: &[u8], out: &mut [u8; LISTING]) -> usize
         &opponents,
         &colours,
         &results,
-    )
+    );
+    Listed {
+        number: answer.number,
+        length,
+    }
 }
 
-// The listing of a file, to standard output.
-pub fn print_listing(file: &[u8]) {
+// What came of a file: it is accepted, or refused, and all that is printed of it was written; it could not be read; or some of what is printed is lost.
+pub enum Printed {
+    Accepted,
+    Refused,
+    Unread,
+    Lost,
+}
+
+// The listing of a file, to standard output. The line of a refused one goes to standard error too.
+pub fn print_listing(file: &[u8]) -> Printed
+    ensures { λ r. ⌜ Says r (now (file .entry)) ⌝ }
+{
     let mut out = [0u8; LISTING];
-    let n = list_file(file, &mut out);
-    io::write_all(STDOUT_FILENO, &out[..n]);
+    let done = list_file(file, &mut out);
+    let n = done.length;
+    if !io::write_all(STDOUT_FILENO, &out[..n]) {
+        return Printed::Lost;
+    }
+    if done.number == 0 {
+        return Printed::Accepted;
+    }
+    if !io::write_all(STDERR_FILENO, &out[..n]) {
+        return Printed::Lost;
+    }
+    Printed::Refused
 }
 
-// The line of a refusal, to a descriptor.
-pub fn print_refused(fd: i32, answer: Answer) {
+// The line of a refusal, to a descriptor. Answers false where it was not written whole.
+pub fn print_refused(fd: i32, answer: Answer) -> bool {
     let mut out = [0u8; ANSWER_LINE];
     let n = listing::put_refused(&mut out, answer);
-    io::write_all(fd, &out[..n]);
+    io::write_all(fd, &out[..n])
 }
 
 // What was read: so many bytes, or a read failed.
@@ -96,12 +129,11 @@ pub fn read_input(fd: i32, file: &mut [u8]) -> Input
     Input::Bytes(n)
 }
 
-// The listing of what a descriptor gives, to standard output. Answers false, and writes nothing, where it cannot be read.
-pub fn print_input(fd: i32) -> bool {
+// The same, of what a descriptor gives. Where it cannot be read, nothing is written.
+pub fn print_input(fd: i32) -> Printed {
     let mut file = [0u8; MOST_READ];
     let Input::Bytes(n) = read_input(fd, &mut file) else {
-        return false;
+        return Printed::Unread;
     };
-    print_listing(&file[..n]);
-    true
+    print_listing(&file[..n])
 }

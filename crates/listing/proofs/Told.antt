@@ -122,11 +122,14 @@ unfolding listing refusedAnswer outcomeListing
 refused-told q x f =
     ap (λ (b : Bool). cond b (acceptedListing (refusedAnswer q) x) (refusedListing (refusedAnswer q))) (ne-eqb (q .number) 0 f)
 
+pub refused-numbered : {file : List ℕ} {q : Refusal} → Judged true file (refused q) → q .number ≡ 0 → ⊥
+refused-numbered j z = label-numbered (j .label) (sym (ap (λ (u : Refusal). u .number) (j .says)) ∙ z)
+
 -- ---- what a reading leaves, listed
 told : (file : List ℕ) (o : Outcome) (b : Lent) (a : Answer) (x : Lent) → Judged true file o → Leaves o b a x → listing a (sixOf (x .tables)) ≡ outcomeListing o
 told file (refused q) b a x j l =
     ap (λ (u : Answer). listing u (sixOf (x .tables))) (l .0) ∙
-    refused-told q (sixOf (x .tables)) (λ z. label-numbered (j .label) (sym (ap (λ (u : Refusal). u .number) (j .says)) ∙ z))
+    refused-told q (sixOf (x .tables)) (refused-numbered j)
 told file (accepted t ps rs) b a x j l =
     ap (λ (u : Answer). listing u (sixOf (x .tables))) (l .0) ∙ accepted-told t (accepted-lawful true file t ps rs j .1) (l .1 .tables) ps rs
 

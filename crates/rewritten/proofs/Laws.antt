@@ -1,11 +1,11 @@
--- What a writing promises, for printing it: no more bytes than there was room for. Assumes nothing.
-use mathlib.Core.Path.{_≡_, refl, sym, ap, _∙_}
+-- What a reading and a writing promise, for printing: no more bytes than there was room for, and the number of the file's answer. Assumes nothing.
+use mathlib.Core.Path.{_≡_, refl, sym, ap, _∙_, subst}
 use mathlib.Core.Bool.{Bool, true, false}
 use mathlib.Core.List.{List, map}
 use Prim.Native.Nat.{ℕ, _≤_}
 use native.Mathlib.Omega.{arith}
 use lib.Dec.{leb}
-use lib.ListN.{length, length-map}
+use lib.ListN.{length, length-map, take-append-drop}
 use lib.Seq.{length-take-le, take-all}
 use borrow.Author.Tests.{leb-true, leb-false}
 use Rattle.io.specs.Counts.{Counts}
@@ -16,7 +16,15 @@ use Rattle.law.specs.Sizes.{mostAccelerations}
 use Rattle.law.specs.Tables.{Tables}
 use Rattle.lawful.specs.Given.{Given}
 use Rattle.law.specs.Writing.{written}
-use Rattle.law.specs.Calls.{writerEnd, writtenAnswer, WriteDone, Writes, write-refused, write-done}
+use Rattle.law.specs.Calls.{writerEnd, writtenAnswer, WriteDone, Reads, Writes, write-refused, write-done}
+use Rattle.join.specs.Store.{Nine}
+use Rattle.join.specs.Kept.{Long}
+use Rattle.lines_read.specs.declared.CoreAnswer.{CoreAnswer}
+use Rattle.reader.specs.Core.{lentWith, CoreReads}
+use Rattle.listed.specs.Printed.{Numbered}
+use Rattle.listed.proofs.Laws.{enough-lent, reads-numbered}
+use Rattle.rewritten.specs.declared.Rewritten.{Rewritten}
+use Rattle.rewritten.specs.Rewrites.{Rewrites}
 
 wide : (a : Answer) (t : Tables) (x : List ℕ) (r : Written) (y : List ℕ) (h : WriteDone a t x r y) → length (written writerEnd (h .t)) ≤ length x
 wide a t x r y h = go (length (written writerEnd (h .t))) refl (leb (length (written writerEnd (h .t))) (length x)) refl
@@ -37,10 +45,27 @@ room a t x r y (write-done h) =
 pub unmapped : {A B : Type 0} (f : A → B) (l : List A) (n : ℕ) → length (map f l) ≡ n → length l ≡ n
 unmapped f l n e = sym (length-map l f) ∙ e
 
--- of the call's own records, as many as are lent
-pub writes-counts : (n : ℕ) (a : Answer) (t : List Acceleration → Tables) (all : List Acceleration) (x : List ℕ) (r : Written) {y : List ℕ}
-    → ((records : List Acceleration) → Given n all records → Writes a (t records) x r y) → length all ≡ n → n ≡ mostAccelerations → Counts (r .length) y
-writes-counts n a t all x r {y} h e m =
-    let given : Given n all all = record { long = e; firsts = λ k. sym (take-all mostAccelerations all (omega arith)) } in
-    let k = room a (t all) x r y (h all given) in
-    (k, sym (length-take-le (r .length) y k))
+-- the tables are lent with the very records that the reading answers, so that what it fills in of them changes none
+pub core-rewrites : {file : List ℕ} {b : Nine} {core : CoreAnswer} {x : Nine} {before : List ℕ} {w : Written} {after : List ℕ}
+    → CoreReads file b mostAccelerations core x → length (core .records) ≡ mostAccelerations → Long b
+    → ((records : List Acceleration) → Given mostAccelerations (core .records) records → Writes (core .answer) (lentWith x records .tables) before w after)
+    → Counts (w .length) after × Rewrites file before (record { answer = core .answer; length = w .length }) after
+core-rewrites {file} {b} {core} {x} {before} {w} {after} read e long write =
+    let all : List Acceleration = core .records in
+    let writes = write all (record { long = e; firsts = λ k. sym (take-all mostAccelerations all (omega arith)) }) in
+    let k = room (core .answer) (lentWith x all .tables) before w after writes in (
+      (k, sym (length-take-le (w .length) after k)),
+      record {
+        lent = lentWith b all;
+        left = lentWith x all;
+        enough = enough-lent b all long (omega arith);
+        reads =
+            subst (λ (l : List Acceleration). Reads file (lentWith b all) (core .answer) (lentWith x l)) (take-append-drop (core .fill) all) (read .reads all e);
+        written = w;
+        writes = writes;
+        long = refl;
+      },
+    )
+
+pub rewrites-numbered : {file before : List ℕ} {r : Rewritten} {after : List ℕ} → Rewrites file before r after → Numbered file (r .answer .number)
+rewrites-numbered h = reads-numbered (h .enough) (h .reads)

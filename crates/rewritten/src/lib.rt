@@ -1,10 +1,13 @@
 // A file in the writer's spelling: the file is read into tables of the listed sizes, and what was read is written; from a descriptor, and to standard
 // output.
 ghost use Rattle.io.specs.Counts.{Counts};
+ghost use Rattle.listed.specs.Printed.{Says};
+ghost use Rattle.rewritten.specs.Rewrites.{Rewrites};
 use libc::STDERR_FILENO;
 use libc::STDOUT_FILENO;
 use listed::Input;
 use listed::MOST_READ;
+use listed::Printed;
 use types::Answer;
 use types::ENTRIES;
 use types::KEPT;
@@ -25,6 +28,7 @@ pub struct Rewritten {
 // The bytes of a file in the writer's spelling, from the first byte of `out` on. The answer of a refusal is no reading, so that nothing is written of it.
 pub fn rewrite_file(file: &[u8], out: &mut [u8; MOST_WRITTEN]) -> Rewritten
     ensures { λ r. ⌜ Counts (r .length) (now (out .exit)) ⌝ }
+    ensures { λ r. ⌜ Rewrites (now (file .entry)) (now (out .entry)) r (now (out .exit)) ⌝ }
 {
     let mut starts = [0u32; MOST_PLAYERS];
     let mut points = [0u32; MOST_PLAYERS];
@@ -71,24 +75,30 @@ pub fn rewrite_file(file: &[u8], out: &mut [u8; MOST_WRITTEN]) -> Rewritten
 }
 
 // A file in the writer's spelling, to standard output. A refusal's line goes to standard error.
-pub fn print_rewritten(file: &[u8]) {
+pub fn print_rewritten(file: &[u8]) -> Printed
+    ensures { λ r. ⌜ Says r (now (file .entry)) ⌝ }
+{
     let mut out = [0u8; MOST_WRITTEN];
     let done = rewrite_file(file, &mut out);
     let answer = done.answer;
     let n = done.length;
-    if answer.number != 0 {
-        listed::print_refused(STDERR_FILENO, answer);
-        return;
+    if answer.number == 0 {
+        if !io::write_all(STDOUT_FILENO, &out[..n]) {
+            return Printed::Lost;
+        }
+        return Printed::Accepted;
     }
-    io::write_all(STDOUT_FILENO, &out[..n]);
+    if !listed::print_refused(STDERR_FILENO, answer) {
+        return Printed::Lost;
+    }
+    Printed::Refused
 }
 
-// The same, of what a descriptor gives. Answers false, and writes nothing, where it cannot be read.
-pub fn print_input(fd: i32) -> bool {
+// The same, of what a descriptor gives. Where it cannot be read, nothing is written.
+pub fn print_input(fd: i32) -> Printed {
     let mut file = [0u8; MOST_READ];
     let Input::Bytes(n) = listed::read_input(fd, &mut file) else {
-        return false;
+        return Printed::Unread;
     };
-    print_rewritten(&file[..n]);
-    true
+    print_rewritten(&file[..n])
 }

@@ -5,6 +5,7 @@
 use drafts::Draft;
 use drafts::ROOM;
 use libc::STDIN_FILENO;
+use listed::Printed;
 
 fn list_draft(name: &[u8], file: &[u8], d: Draft) {
     let end = drafts::file_end(d, file);
@@ -20,7 +21,7 @@ fn list_named(name: &[u8]) {
         os::fail(name);
         return;
     }
-    if !listed::print_input(fd) {
+    if let Printed::Unread = listed::print_input(fd) {
         os::fail(name);
     }
     libc::close(fd);

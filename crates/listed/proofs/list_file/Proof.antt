@@ -1,8 +1,7 @@
 -- `listed::list_file` meets its contract. Assumes nothing.
 use borrow.Author.Needs.{needs}
-use Rattle.listed.proofs.Laws.{core-listed}
 use native.Mathlib.Omega.{arith}
-use Rattle.listed.proofs.Laws.{core-small, put-counts}
+use Rattle.listed.proofs.Laws.{core-small, core-listed, put-counts}
 use Rattle.listed.proofs.list_file.Statement.{statement}
 use Rattle.listed.proofs.list_file.Tie as tie
 

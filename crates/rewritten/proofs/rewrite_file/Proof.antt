@@ -1,8 +1,6 @@
 -- `rewritten::rewrite_file` meets its contract. Assumes nothing.
 use borrow.Author.Needs.{needs}
-use mathlib.Core.Path.{refl}
-use Rattle.lawful.specs.Given.{tablesOf}
-use Rattle.rewritten.proofs.Laws.{unmapped, writes-counts}
+use Rattle.rewritten.proofs.Laws.{unmapped, core-rewrites}
 use Rattle.rewritten.proofs.rewrite_file.Statement.{statement}
 use Rattle.rewritten.proofs.rewrite_file.Tie as tie
 
@@ -65,8 +63,25 @@ write-core-requires c κs = search needs
 
 returns : tie.Need-returns
 returns c =
-    let r = c .before .before .before .before .before .before .before .before .before .before .before .before .before .before .before .before .before .before .before .before .before .read-core in
-    writes-counts _ _ (λ records. tablesOf _ _ _ _ _ _ _ _ records) _ _ _ (c .write-core .ensures) (unmapped _ (r .result .records) 32 (r .ok .1 .1 .1 .0 .1 .0 .1)) refl
+    core-rewrites
+    (c .before .before .before .before .before .before .before .before .before .before .before .before .before .before .before .before .before .before .before .before .before .read-core .ensures)
+    (unmapped
+    _
+    (c .before .before .before .before .before .before .before .before .before .before .before .before .before .before .before .before .before .before .before .before .before .read-core .result .records)
+    32
+    (c .before .before .before .before .before .before .before .before .before .before .before .before .before .before .before .before .before .before .before .before .before .read-core .ok .1 .1 .1 .0 .1 .0 .1))
+    (record {
+      starts = search needs;
+      points = search needs;
+      ranks = search needs;
+      kept = search needs;
+      opponents = search needs;
+      colours = search needs;
+      results = search needs;
+      text = search needs;
+      lines = search needs;
+    })
+    (c .write-core .ensures)
 
 pub rewrite-file-spec : {M : Type 1} → statement M
 rewrite-file-spec =
