@@ -1,4 +1,4 @@
-/* The structs of the header against what the library fills in. Sizes and offsets stand here as numbers. A report in which every part of an answer has a value
+/* The structs of the header against what the library fills in, and its words. Sizes and offsets stand here as numbers. A report in which every part of an answer has a value
    of its own is read, asked and written; each part must then be found at its offset in the bytes that the library left, and by its name in the struct. Nothing
    is asked of the bytes between the parts. */
 #include "report.h"
@@ -204,6 +204,23 @@ static void refused(int pattern)
     *last = '1';
 }
 
+/* The header says its version twice, and has words for each refusal and for no number past the last. */
+static void words(void)
+{
+    uint32_t parts[3] = {0};
+    size_t at = 0;
+    for (const char *c = TRF_VERSION; *c && at < 3; c++) {
+        if (*c == '.')
+            at++;
+        else
+            parts[at] = 10 * parts[at] + (uint32_t)(*c - '0');
+    }
+    same("the version's number", TRF_VERSION_NUMBER, 10000 * parts[0] + 100 * parts[1] + parts[2]);
+    same("an acceptance in words", (uint64_t)strcmp(trf_words(TRF_ACCEPTED), "accepted"), 0);
+    for (uint32_t number = 1; number <= TRF_NO_PLACE; number++)
+        same("a refusal without words", strcmp(trf_words(number), trf_words(TRF_NO_PLACE + 1)) == 0, 0);
+}
+
 static void sizes(void)
 {
     same("size of trf_place", sizeof(trf_place), 4);
@@ -219,6 +236,7 @@ int check_layout(void)
 {
     static const int patterns[] = {0xA5, 0x5A};
     sizes();
+    words();
     if (failures != 0)
         return FAILED; /* a call would write past what is answered */
     memset(file, '\r', EMPTY_LINES);

@@ -6,7 +6,9 @@
        report layout                  test: the structs of the header against what the library fills in
        report refuse NUMBER [FILE]    test: a refusal that no file gives (1, 18, 19 or 20), over an accepted report
 
-   Without FILE the report stands on standard input. */
+   Without FILE the report stands on standard input. Of a refused report standard error has the words. Status: 0 done, 1 refused, 2 trouble.
+
+   With the kit alone, on x86-64 or Arm: tools/link-c report examples/report.c examples/layout.c examples/refuse.c; then tools/run-x86 report list FILE. */
 #include "report.h"
 
 #include <string.h>
@@ -21,6 +23,8 @@ static uint8_t out[TRF_MOST_WRITTEN];
 void print_refused(FILE *to, uint32_t number, uint32_t line, uint32_t round)
 {
     fprintf(to, "refused\t%u\t%u\t%u\n", (unsigned)number, (unsigned)line, (unsigned)round);
+    fflush(to);
+    fprintf(stderr, "report: %s\n", trf_words(number));
 }
 
 /* The bytes of a file into `file`, and how many there are. */
@@ -58,34 +62,33 @@ static void print_player(uint32_t place, uint32_t rounds)
     putchar('\n');
 }
 
-/* A refusal is a listing too, so that it does not fail. */
 static int list(const char *name)
 {
     trf_answer answer;
     int status = take(name, &answer);
-    if (status == UNUSABLE)
-        return UNUSABLE;
-    if (status == REFUSED) {
+    if (status == REFUSED)
         print_refused(stdout, answer.number, answer.line.line, answer.round);
-        return DONE;
-    }
+    if (status != DONE)
+        return status;
     printf("accepted\t%u\t%u\t%u\n", (unsigned)answer.players, (unsigned)answer.rounds, (unsigned)answer.accelerations);
     for (uint32_t place = 0; place < answer.players; place++)
         print_player(place, answer.rounds);
     return DONE;
 }
 
+/* Of several files the worst status counts. */
 static int list_all(int n, char **names)
 {
     if (n < 2)
         return list(n == 1 ? names[0] : NULL);
-    int status = DONE;
+    int worst = DONE;
     for (int i = 0; i < n; i++) {
         printf("%s\n", names[i]);
-        if (list(names[i]) != DONE)
-            status = UNUSABLE;
+        int status = list(names[i]);
+        if (status > worst)
+            worst = status;
     }
-    return status;
+    return worst;
 }
 
 /* The place of a start number. Where nobody has it that is the one past the last player, which the library refuses by 20. */

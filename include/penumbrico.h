@@ -8,6 +8,11 @@
 #ifndef PENUMBRICO_H
 #define PENUMBRICO_H
 
+/* The version of this header and of what the calls answer, for people and for #if (10000 a first number, 100 a second, 1 a third). The first moves where a
+   caller must change: a struct, a size, a call or the meaning of an answer. The second moves where the box carries more, the third where neither does. */
+#define TRF_VERSION "1.0.0"
+#define TRF_VERSION_NUMBER 10000
+
 #ifdef PENUMBRICO_NO_HEADERS /* for a compiler without the C library's headers: the names that gcc and clang have built in */
 typedef __UINT8_TYPE__ uint8_t;
 typedef __UINT32_TYPE__ uint32_t;
@@ -42,30 +47,49 @@ enum {
     TRF_LINE_CELLS = 232         /* line numbers: of the player at cell place, of the 250 record i at cell 200 + i */
 };
 
-/* The refusals, each in one line. docs/REFUSALS.md says of each where its line and round point and what to do about it. */
-enum trf_refusal {
-    TRF_ACCEPTED = 0,
-    TRF_TABLE_SHORT = 1,  /* a lent table is too short */
-    TRF_FILE_BIG = 2,     /* the file is over 65,535 bytes */
-    TRF_BAD_BYTE = 3,     /* the line has a byte that is not allowed */
-    TRF_NO_CR = 4,        /* the last line has no CR */
-    TRF_LINE_LONG = 5,    /* the line is over 512 bytes */
-    TRF_UNLISTED = 6,     /* the line is a record that the box does not carry */
-    TRF_BAD_FIELD = 7,    /* a field or column of the line is against its rule */
-    TRF_AGAIN = 8,        /* a record that may stand once, or a start number, stands again */
-    TRF_TOO_MANY = 9,     /* more players, acceleration records or text than the box carries */
-    TRF_INCOMPLETE = 10,  /* no tournament name (012) or no player (001) */
-    TRF_PAST_ROUNDS = 11, /* an entry in a round past the number of rounds (142) */
-    TRF_NO_ENTRY = 12,    /* an entry is neither a bye nor a game */
-    TRF_NOT_MUTUAL = 13,  /* the opponent's entry does not name this player with the other colour */
-    TRF_RESULTS = 14,     /* the two results of a game do not fit each other */
-    TRF_SECOND_U = 15,    /* a second pairing-allocated bye (U) in one round */
-    TRF_POINTS = 16,      /* the stated points are not the sum of the rounds */
-    TRF_OVERLAP = 17,     /* two acceleration records (250) share a round and a start number */
-    TRF_NO_READING = 18,  /* writing or asking: no accepted file has this reading */
-    TRF_OUT_SHORT = 19,   /* writing: the output is too short */
-    TRF_NO_PLACE = 20     /* asking: no such player or round */
-};
+/* The refusals: number, name, words. docs/REFUSALS.md says of each where its line and round point and what to do about it. The words stand here once: this
+   table makes the names and trf_words below, and ./list and ./rewrite print them from it. */
+#define TRF_REFUSALS(X) \
+    X(1, TRF_TABLE_SHORT, "a lent table is too short")                                            \
+    X(2, TRF_FILE_BIG, "the file is over 65,535 bytes")                                           \
+    X(3, TRF_BAD_BYTE, "the line has a byte that is not allowed")                                 \
+    X(4, TRF_NO_CR, "the last line has no CR")                                                    \
+    X(5, TRF_LINE_LONG, "the line is over 512 bytes")                                             \
+    X(6, TRF_UNLISTED, "the line is a record that the box does not carry")                        \
+    X(7, TRF_BAD_FIELD, "a field or column of the line is against its rule")                      \
+    X(8, TRF_AGAIN, "a record that may stand once, or a start number, stands again")              \
+    X(9, TRF_TOO_MANY, "more players, acceleration records or text than the box carries")         \
+    X(10, TRF_INCOMPLETE, "no tournament name (012) or no player (001)")                          \
+    X(11, TRF_PAST_ROUNDS, "an entry in a round past the number of rounds (142)")                 \
+    X(12, TRF_NO_ENTRY, "an entry is neither a bye nor a game")                                   \
+    X(13, TRF_NOT_MUTUAL, "the opponent's entry does not name this player with the other colour") \
+    X(14, TRF_RESULTS, "the two results of a game do not fit each other")                         \
+    X(15, TRF_SECOND_U, "a second pairing-allocated bye (U) in one round")                        \
+    X(16, TRF_POINTS, "the stated points are not the sum of the rounds")                          \
+    X(17, TRF_OVERLAP, "two acceleration records (250) share a round and a start number")         \
+    X(18, TRF_NO_READING, "writing or asking: no accepted file has this reading")                 \
+    X(19, TRF_OUT_SHORT, "writing: the output is too short")                                      \
+    X(20, TRF_NO_PLACE, "asking: no such player or round")
+
+#define TRF_NAMED(number, name, words) , name = number
+enum trf_refusal { TRF_ACCEPTED = 0 TRF_REFUSALS(TRF_NAMED) };
+#undef TRF_NAMED
+
+/* The words of an answer's number, in one line without a full stop. */
+static inline const char *trf_words(uint32_t number)
+{
+    switch (number) {
+    case TRF_ACCEPTED:
+        return "accepted";
+#define TRF_CASE(number, name, words) \
+    case name:                        \
+        return words;
+        TRF_REFUSALS(TRF_CASE)
+#undef TRF_CASE
+    default:
+        return "no refusal has this number";
+    }
+}
 
 /* A player's place in the tables, from 0: not a start number, not a rank. */
 typedef struct { uint32_t place; } trf_place;
