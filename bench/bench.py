@@ -210,6 +210,8 @@ def profile(call, row):
 
 
 def main(words):
+    if words in (["-h"], ["--help"]):
+        return print(__doc__)
     processes = 9
     if "--processes" in words:
         at = words.index("--processes")

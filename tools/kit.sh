@@ -1,33 +1,138 @@
-# Read by the scripts of this folder, which set `command` first, the name to speak under: the repository, rt, and how the kit's tools are called.
+# Read by the scripts of this folder, which set `command` first, the name to speak under: their help, the repository, rt, and how the kit's tools are called.
 
-fail() { printf '%s: %s\n' "$command" "$*" >&2; exit 1; }
+say() { printf '%s: %s\n' "$command" "$*" >&2; }
 
-here=$(cd "$(dirname "$0")/.." && pwd -P) || exit 1
-rt=$(command -v rt) || fail "rt is not on the path"
-kit=${RATTLE_HOME:-$(cd "$(dirname "$(readlink -f "$rt")")/.." && pwd -P)}
+# Trouble is status 2: 1 stays for what a script asks about, a refused file or a test that fails.
+fail() { say "$*"; exit 2; }
+
+# A script's head is its help.
+case ${1:-} in -h | --help) sed -n '2,/^[^#]/s/^# \{0,1\}//p' "${help:-$0}"; exit 0 ;; esac
+
+here=$(dirname "$(dirname "$(readlink -f "$0")")")
+rt=$(command -v rt) || fail "rt, the command of the Rattle kit, is not on the path; README.md says what it is"
+kit=${RATTLE_HOME:-$(dirname "$(dirname "$(readlink -f "$rt")")")}
 toolchain=$kit/on/$(uname -m)/toolchain
 [ -d "$toolchain" ] || fail "the kit $kit has no tools for $(uname -m)"
 
-# Whether a file is missing or older than a source.
-is_stale() { [ ! -f "$1" ] || [ -n "$(find "$here/crates.txt" "$here/crates" \( -name '*.rt' -o -name '*.antt' -o -name crates.txt \) -newer "$1" | head -n 1)" ]; }
+# ---- what rt makes
 
-# by_rt FILE WORDS..: the file, made by rt with these words where it is stale.
-by_rt() {
-    is_stale "$1" || return 0
-    wanted=$1
-    shift
-    printf '%s: making %s\n' "$command" "${wanted#"$here"/}" >&2
-    mkdir -p "$here/target" && started=$(mktemp "$here/target/.started-XXXXXX") || exit 1
-    (cd "$here" && "$rt" "$@") </dev/null >&2 || { rm -f "$started"; fail "${wanted#"$here"/} could not be made"; }
-    # as old as the start, so that a source saved meanwhile is seen to be newer
-    touch -r "$started" "$wanted"
-    rm -f "$started"
+# The kit and every source, by content.
+sources() {
+    cat "$kit/KIT-ID"
+    cd "$here" && find crates.txt crates -type f \( -name '*.rt' -o -name '*.antt' -o -name crates.txt \) -exec sha256sum {} + | LC_ALL=C sort
 }
 
+# A file that rt made is fresh while FILE.of has the sources that it was made of and the file's own bytes: so a source that was changed, taken away or
+# brought back is seen, and a file that came there otherwise too.
+made_of() { { sources && sha256sum <"$1"; } | sha256sum; }
+is_fresh() { [ -f "$1" ] && [ -f "$1.of" ] && [ "$(cat "$1.of")" = "$(made_of "$1")" ]; }
+
+# A crate and all that it stands on.
+needs_of() {
+    awk -v goal="$1" '
+        function visit(n,    a, k, m) {
+            if (!(n in deps) || n in seen) return
+            seen[n]
+            m = split(deps[n], a, " ")
+            for (k = 1; k <= m; k++) visit(a[k])
+            print n
+        }
+        { sub(/#.*/, ""); i = index($0, ":"); n = substr($0, 1, i - 1); gsub(/[ \t]/, "", n); if (i) deps[n] = substr($0, i + 1) }
+        END { visit(goal) }' "$here/crates.txt"
+}
+
+# One line that counts: rewritten in place on a terminal; elsewhere said after two seconds, and then once a minute. rt opens target/log/NAME.out when it
+# begins with a crate, and writes to it when the crate is done.
+show_progress() {
+    seconds=$((seconds + 1))
+    [ -t 2 ] || [ $((seconds % 60)) -eq 2 ] || return 0
+    begun=0 now=
+    for out in $(cd "$here/target/log" && find . -name '*.out' -newer "$began"); do
+        begun=$((begun + 1)) crate=${out#./}
+        [ -s "$here/target/log/$out" ] || now=${now:+$now, }${crate%.out}
+    done
+    [ -n "$now" ] || [ $((begun + 1)) -ge "$total" ] || return 0
+    [ -n "$now" ] || begun=$((total)) now=$goal
+    words="proving $begun of $((total)): $now"
+    if [ -t 2 ]; then printf '\r%s: %s\033[K' "$command" "$words" >&2; else say "$words"; fi
+}
+
+end_progress() { [ ! -t 2 ] || printf '\r\033[K' >&2; }
+
+interrupted() {
+    kill "$making" 2>/dev/null
+    wait "$making"
+    end_progress
+    say "interrupted: what was proved is kept, and the next call goes on from there"
+    exit 130
+}
+
+# by_words WORDS..: rt with these words, into the log. The provers are a process group of their own, which `timeout` makes and, ended, ends: no prover
+# outlives an interruption.
+by_words() {
+    (cd "$here" && exec timeout 0 "$rt" "$@") </dev/null >>"$here/$log" 2>&1 &
+    making=$!
+    trap interrupted INT TERM HUP
+    while kill -0 "$making" 2>/dev/null; do
+        sleep 1
+        show_progress
+    done
+    wait "$making"
+    ended=$?
+    trap - INT TERM HUP
+    return $ended
+}
+
+# Of a static library rt proves one crate at a time. So what it stands on is proved before, as many at a time as there are processors.
+by_words_of() {
+    # shellcheck disable=SC2046
+    [ "$1" != staticlib ] || by_words check $(needs_of "$goal" | grep -vx "$goal") || return
+    by_words "$@"
+}
+
+# rt does not link again what it proved before: a program that is gone, or that was changed since, is forgotten.
+forget_program() {
+    stamp=$here/target/stamp/$goal
+    [ "$1" = check ] && [ -f "$stamp" ] || return 0
+    [ -f "$wanted" ] && [ -z "$(find "$wanted" -newer "$stamp")" ] || rm -f "$stamp"
+}
+
+# by_rt FILE WORDS.. CRATE: the file, made by rt with these words where it is not fresh; by one call at a time, and again where a source was saved meanwhile.
+by_rt() {
+    wanted=$1
+    shift
+    is_fresh "$wanted" && return
+    for goal in "$@"; do :; done
+    log=target/log/$goal.made
+    began=$here/target/log/$goal.began
+    total=$(needs_of "$goal" | wc -l)
+    mkdir -p "$here/target/log" && exec 9>"$here/target/making" || exit 2
+    flock -n 9 || { say "another call is proving: waiting for it" && flock 9; }
+    until is_fresh "$wanted"; do
+        seconds=0
+        before=$(sources)
+        : >"$here/$log" && : >"$began" || exit 2
+        forget_program "$@"
+        by_words_of "$@"
+        ended=$?
+        end_progress
+        if [ $ended -ne 0 ]; then
+            say "${wanted#"$here"/} could not be made. $log has what rt said; the first fault in it:"
+            fail "$(awk '{ last = $0 } /NOT PROVED|error/ { exit } END { print substr(last, 1, 300) }' "$here/$log")"
+        fi
+        [ "$before" != "$(sources)" ] || made_of "$wanted" >"$wanted.of"
+    done
+    exec 9>&-
+}
+
+# ---- what the kit runs
+
 # run_x86 PROGRAM WORDS..: by the kit's loader and C library, as rt does, and by its emulator where the processor is not x86-64. Of the emulator's processors
-# the plainest is taken: with its default one the C library clears memory by an instruction that is emulated byte by byte.
+# the plainest is taken: with its default one the C library clears memory by an instruction that is emulated byte by byte. The loader looks for a bare name
+# among the libraries.
 run_x86() {
     emulator=$toolchain/bin/qemu-x86_64
     [ -x "$emulator" ] || emulator=
+    case $1 in */*) ;; *) bare=$1 && shift && set -- "./$bare" "$@" ;; esac
     ${emulator:+"$emulator" -cpu qemu64} "$toolchain/lib/ld-linux-x86-64.so.2" --library-path "$toolchain/lib" "$@"
 }
