@@ -47,21 +47,20 @@ show_progress() {
     seconds=$((seconds + 1))
     [ -t 2 ] || [ $((seconds % 60)) -eq 2 ] || return 0
     begun=0 now=
-    for out in $(cd "$here/target/log" && find . -name '*.out' -newer "$began"); do
-        begun=$((begun + 1)) crate=${out#./}
-        [ -s "$here/target/log/$out" ] || now=${now:+$now, }${crate%.out}
+    for crate in $(cd "$here/target/log" && find . -name '*.out' -newer "$began" | sed 's|^\./||; s|\.out$||'); do
+        case " $needed " in *" $crate "*) begun=$((begun + 1)) ;; *) continue ;; esac
+        [ -s "$here/target/log/$crate.out" ] || now=${now:+$now, }$crate
     done
     [ -n "$now" ] || [ $((begun + 1)) -ge "$total" ] || return 0
-    [ -n "$now" ] || begun=$((total)) now=$goal
-    words="proving $begun of $((total)): $now"
+    [ -n "$now" ] || begun=$total now=$goal
+    words="proving $begun of $total: $now"
     if [ -t 2 ]; then printf '\r%s: %s\033[K' "$command" "$words" >&2; else say "$words"; fi
 }
 
 end_progress() { [ ! -t 2 ] || printf '\r\033[K' >&2; }
 
 interrupted() {
-    kill "$making" 2>/dev/null
-    wait "$making"
+    { kill "$making" && wait "$making"; } 2>/dev/null
     end_progress
     say "interrupted: what was proved is kept, and the next call goes on from there"
     exit 130
@@ -85,8 +84,8 @@ by_words() {
 
 # Of a static library rt proves one crate at a time. So what it stands on is proved before, as many at a time as there are processors.
 by_words_of() {
-    # shellcheck disable=SC2046
-    [ "$1" != staticlib ] || by_words check $(needs_of "$goal" | grep -vx "$goal") || return
+    # shellcheck disable=SC2086
+    [ "$1" != staticlib ] || by_words check ${needed% "$goal"} || return
     by_words "$@"
 }
 
@@ -105,7 +104,8 @@ by_rt() {
     for goal in "$@"; do :; done
     log=target/log/$goal.made
     began=$here/target/log/$goal.began
-    total=$(needs_of "$goal" | wc -l)
+    needed=$(needs_of "$goal" | paste -s -d ' ' -)
+    total=$(printf '%s\n' "$needed" | awk '{ print NF }')
     mkdir -p "$here/target/log" && exec 9>"$here/target/making" || exit 2
     flock -n 9 || { say "another call is proving: waiting for it" && flock 9; }
     until is_fresh "$wanted"; do
