@@ -94,7 +94,7 @@ sub-sum-of c =
     let g = c .before .before .before .before .before .before .is-reading .ensures .sound (not-false _ (c .before .before .before .before .before .if2 .left)) in
     let w = inside (a .answer) (a .place) (a .round) (sym (c .before .before .before .before .is-inside .ensures) ∙ not-false _ (c .before .before .before .if3 .left)) in
     let k = rooms-are t (all-long t (a .accelerations) (sym e ∙ not-false _ (c .before .before .before .before .before .before .before .if1 .left)) (omega arith)) in
-    w .1
+    omega (arith, w .1)
 
 sum-of-requires : tie.Need-sum-of-requires
 sum-of-requires c κs =
