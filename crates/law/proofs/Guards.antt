@@ -1,14 +1,13 @@
--- Rows of our own, computed: each guards a rule that no marked row and no theorem guards. The lines are laid out here by hand, apart from the statement's
--- own columns. Assumes nothing.
+-- Rows of our own, each with its computation beside it, so that a row that fails is named by its text: each guards a rule that no marked row and no theorem
+-- guards. The lines are laid out here by hand, apart from the statement's own columns. Assumes nothing.
 use mathlib.Core.Path.{_≡_, refl}
-use mathlib.Core.Bool.{true}
-use mathlib.Core.List.{List, [], _∷_, _++_, map}
+use mathlib.Core.List.{List, [], _∷_, _++_}
 use Prim.Native.Nat.{ℕ, _+_, _-_}
 use Prim.Native.Char.{code}
 use Prim.Native.String.{String}
 use lib.ListN.{length, replicate}
 use Rattle.kit.specs.Ascii.{ascii}
-use Rattle.kit.specs.Lists.{all, flat, top}
+use Rattle.kit.specs.Lists.{flat, top}
 use Rattle.kit.specs.First.{AllOf}
 use Rattle.law.specs.Columns.{cells}
 use Rattle.law.specs.Scoring.{scoringOf}
@@ -20,9 +19,11 @@ use Rattle.law.specs.Spelling.{isPast}
 use Rattle.law.specs.Tables.{contentOf, answerOf}
 use Rattle.law.specs.Refusals.{isAgain, isTooMany, linesOf, isFileFault, labels}
 use Rattle.law.specs.Writing.{writtenLines, written, earnedBefore, accelerationFor}
+use Rattle.law.specs.Calls.{refusedAnswer, writtenAnswer, scoreAnswer}
 use Rattle.law.proofs.RecordsRead.{itemOf}
 use Rattle.law.proofs.Judges.{outcomeOf}
-use Rattle.law.proofs.Samples.{starts, points, ranks, kept, opponents, colours, results, text, lines, added, first-rounds, last-rounds, first-starts, last-starts, text-length, initial-colour, value, Row, refuses, accepts, stores, rewrites, asks, spells, spells-nothing, RowHolds, test, all-tested}
+use Rattle.law.proofs.Rows.{starts, points, ranks, kept, opponents, colours, results, text, lines, added, first-rounds, last-rounds, first-starts, last-starts, text-length, initial-colour, value, as-left, cut-short, Row, refuses, accepts, scores, stores, writes, asks, fitting, spells, spells-nothing, RowHolds, test, Computed}
+use Rattle.law.proofs.Samples.{all-computed}
 use Rattle.law.proofs.Marked.{line, cup, roe, poe, sampleT}
 
 -- ---- texts at their columns, from column c on
@@ -42,6 +43,10 @@ keptRow c s = put 1 ((1, "001") ∷ (5, "   1") ∷ (c, s) ∷ (81, " 0.0") ∷ 
 unfoldable pub rowWith : List (ℕ × String) → List ℕ
 rowWith more = put 1 ((1, "001") ∷ (5, "   1") ∷ (81, " 0.0") ∷ (86, "   1") ∷ more)
 
+-- a 001 row of its texts from column 5 on
+unfoldable pub rowOfTexts : List (ℕ × String) → List ℕ
+rowOfTexts texts = put 1 ((1, "001") ∷ texts)
+
 unfoldable pub crlf-line : String → List ℕ
 crlf-line s = ascii s ++ (13 ∷ 10 ∷ [])
 
@@ -53,202 +58,265 @@ alone = person "   1" " 0.0" "   1" []
 unfoldable pub two : String → String → String → String → List ℕ
 two p e q f = cup ++ (person "   1" p "   1" ((92, e) ∷ []) ++ person "   2" q "   2" ((92, f) ∷ []))
 
--- ---- lines and terminators
-unfoldable pub lineRows : List Row
-lineRows =
-    accepts (crlf-line "012 Cup" ++ alone) 1 0 0 ∷
-    accepts (cup ++ (13 ∷ 13 ∷ 10 ∷ alone)) 1 0 0 ∷
-    refuses (crlf-line "012 Cup" ++ (10 ∷ alone)) 3 2 0 ∷
-    refuses (ascii "012 Cup\n") 3 1 0 ∷
-    refuses (ascii "012 Cup") 4 1 0 ∷
-    refuses (cup ++ ascii "  ") 4 2 0 ∷
-    refuses (cup ++ line "013\t") 3 2 0 ∷
-    refuses (cup ++ (ascii "022 " ++ (31 ∷ 13 ∷ []))) 3 2 0 ∷
-    refuses (cup ++ (ascii "022 " ++ (127 ∷ 13 ∷ []))) 3 2 0 ∷
-    refuses (cup ++ (ascii "022 " ++ (256 ∷ 13 ∷ []))) 3 2 0 ∷
-    accepts (cup ++ (ascii "022 " ++ (126 ∷ 128 ∷ 255 ∷ 13 ∷ alone))) 1 0 0 ∷
-    refuses (replicate 512 32 ++ (13 ∷ [])) 10 0 0 ∷
-    refuses (cup ++ (replicate 513 32 ++ (13 ∷ []))) 5 2 0 ∷
-    refuses (ascii "###" ++ (replicate 510 120 ++ (13 ∷ []))) 5 1 0 ∷
-    refuses (ascii "013" ++ (replicate 510 120 ++ (13 ∷ []))) 5 1 0 ∷
-    refuses (ascii "012" ++ replicate 510 120) 4 1 0 ∷
-    refuses (line "013 x" ++ line "\t") 6 1 0 ∷
-    refuses (line "###x" ++ (cup ++ line " ###")) 6 3 0 ∷
-    refuses (line "01") 6 1 0 ∷
-    refuses (line "013x") 6 1 0 ∷
-    refuses (line "012x") 7 1 0 ∷
-    refuses (line "082 1") 6 1 0 ∷
-    refuses (cup ++ line "352 WBWB") 6 2 0 ∷ []
+-- the same with an entry each at a column
+unfoldable pub twoAt : ℕ → String → String → String → String → List ℕ
+twoAt c p e q f = cup ++ (person "   1" p "   1" ((c, e) ∷ []) ++ person "   2" q "   2" ((c, f) ∷ []))
 
--- ---- once only, and the order of 7, 8, 10, 11, 17, 12
-unfoldable pub onceRows : List Row
-onceRows =
-    refuses (line "022 a" ++ line "022 b") 8 2 0 ∷
-    accepts (cup ++ (line "112 a" ++ (line "112 a" ++ alone))) 1 0 0 ∷
-    refuses (cup ++ line "012") 7 2 0 ∷
-    refuses (line "142 1" ++ line "142 1") 8 2 0 ∷
-    refuses (line "152 W" ++ line "152 B") 8 2 0 ∷
-    refuses (line "162  W 1.0" ++ line "162  D 1.0") 8 2 0 ∷
-    refuses (person "   7" " 0.0" "   1" [] ++ person "0007" " 0.0" "   2" []) 8 2 0 ∷
-    refuses cup 10 0 0 ∷
-    refuses alone 10 0 0 ∷
-    refuses (line "142 0" ++ person "   1" " 0.0" "   1" ((99, "Z") ∷ [])) 10 0 0 ∷
-    refuses (cup ++ (line "250      01.0 001 002 0001 0001" ++ (line "250      01.0 002 002 0001 0001" ++ (line "142 0" ++ person "   1" " 0.0" "   1" ((92, "   9") ∷ []))))) 11 5 1 ∷
-    refuses (cup ++ (line "250      01.0 001 002 0001 0001" ++ (line "250      01.0 002 002 0001 0001" ++ person "   1" " 0.0" "   1" ((92, "   9") ∷ [])))) 17 3 0 ∷
-    accepts (cup ++ (line "250      01.0 001 002 0001 0001" ++ (line "250      01.0 002 002 0002 0003" ++ (line "250      01.0 003 004 0001 0001" ++ alone)))) 1 0 3 ∷
-    accepts (cup ++ (line "250      01.0 003 004 0005 0009" ++ (line "250      01.0 001 002 0005 0009" ++ (line "250      01.0 003 004 0001 0004" ++ alone)))) 1 0 3 ∷
-    refuses (cup ++ (line "142 1" ++ person "   1" " 0.0" "   1" ((92, "0000 - Z  0000 - Z") ∷ []))) 11 3 2 ∷
-    refuses (cup ++ (line "142 0" ++ person "   1" " 0.0" "   1" ((109, "Z") ∷ (119, "Z") ∷ []))) 11 3 2 ∷ []
+-- one player after some lines
+unfoldable pub after : List ℕ → List ℕ
+after before = cup ++ (before ++ alone)
 
--- ---- text up to 2,048 bytes: 8 + 3 * 513 + 501; then 8 before 9
+-- ---- texts of 2,048 bytes together: 8 + 3 * 513 + 501
 unfoldable pub note : ℕ → List ℕ
 note n = ascii "112 " ++ (replicate n 120 ++ (13 ∷ []))
 
 unfoldable pub fullText : List ℕ
 fullText = cup ++ (note 508 ++ (note 508 ++ (note 508 ++ note 496)))
 
-unfoldable pub fullRows : List Row
-fullRows =
-    refuses fullText 10 0 0 ∷
-    refuses (fullText ++ line "112") 9 6 0 ∷
-    refuses (fullText ++ cup) 8 6 0 ∷ []
+-- ---- a scoring in which all six values differ
+unfoldable pub scoring : String
+scoring = "162  X 0.7    P 2.0    A 0.1    L 0.2    D 1.0    W 3.0"
 
--- ---- a round's entry
-unfoldable pub entryRows : List Row
-entryRows =
-    -- byes in every spelling, small letters, an id of 0
-    accepts (cup ++ person "   1" " 1.5" "   1" ((92, "   0 - h     0   F") ∷ (117, "-") ∷ [])) 1 3 0 ∷
-    accepts (cup ++ person "   1" " 0.0" "   1" ((219, "z") ∷ [])) 1 13 0 ∷
-    accepts (cup ++ person "   1" " 0.0" "   1" ((289, "Z") ∷ [])) 1 20 0 ∷
-    accepts (two " 1.0" "   2 b w" " 0.0" "   1 w L") 2 1 0 ∷
-    accepts (two " 0.0" "   2 b 0" " 1.0" "   1 w 1") 2 1 0 ∷
-    accepts (two " 0.5" "   2 b d" " 0.5" "   1 w D") 2 1 0 ∷
-    accepts (two " 0.5" "   2 b =" " 0.5" "   1 w =") 2 1 0 ∷
-    -- neither bye nor game
-    refuses (two " 0.0" "   2 w  " " 0.0" "   1 b 0") 12 2 1 ∷
-    refuses (two " 0.0" "   2   1" " 0.0" "   1 b 0") 12 2 1 ∷
-    refuses (two " 0.0" "   2 - 1" " 0.0" "   1 b 0") 12 2 1 ∷
-    refuses (two " 0.0" "   2 w H" " 0.0" "   1 b 0") 12 2 1 ∷
-    refuses (two " 0.0" "   3 w 1" " 0.0" "   1 b 0") 12 2 1 ∷
-    refuses (two " 0.0" "0000 w Z" " 0.0" "0000 - Z") 12 2 1 ∷
-    refuses (two " 0.0" "0000 - -" " 0.0" "0000 - Z") 12 2 1 ∷
-    refuses (two " 0.0" "0000 - 1" " 0.0" "0000 - Z") 12 2 1 ∷
-    refuses (two " 0.0" "     w  " " 0.0" "        ") 12 2 1 ∷
-    -- 12 over the whole file before 13, 13 before 14, 14 before 15, 15 before 16
-    refuses (two " 1.0" "   2 w 1" " 0.0" "   9 b 0") 12 3 1 ∷
-    refuses (cup ++ (person "   1" " 1.0" "   1" ((92, "   2 w 1     2 w 1") ∷ []) ++ person "   2" " 0.0" "   2" ((92, "   1 b =  0000 - Z") ∷ []))) 13 2 2 ∷
-    refuses (cup ++ (person "   1" " 9.0" "   1" ((92, "   2 w 1  0000 - U") ∷ []) ++ person "   2" " 0.0" "   2" ((92, "   1 b 1  0000 - U") ∷ []))) 14 2 1 ∷
-    refuses (two " 9.0" "0000 - U" " 1.0" "0000 - U") 15 3 1 ∷
-    -- not mutual, seen from the higher number
-    refuses (cup ++ (person "   1" " 1.0" "   1" ((92, "   2 w 1") ∷ []) ++ (person "   2" " 0.0" "   2" ((92, "   1 b 0") ∷ []) ++ person "   3" " 0.0" "   3" ((92, "   1 b 0") ∷ [])))) 13 4 1 ∷
-    refuses (two " 0.0" "0000 - Z" " 1.0" "   1 b 1") 13 3 1 ∷
-    refuses (two " 0.0" "   2 w +" " 0.0" "   1 b +") 14 2 1 ∷
-    refuses (two " 0.0" "   2 w 1" " 0.0" "   1 b L") 14 2 1 ∷
-    refuses (two " 0.0" "   2 w 0" " 0.0" "   1 b 0") 14 2 1 ∷
-    refuses (two " 0.0" "   2 w D" " 0.0" "   1 b =") 14 2 1 ∷
-    -- the first player with a fault, then the lowest round
-    refuses (cup ++ (person "   1" " 0.0" "   1" ((92, "0000 - U  0000 - U") ∷ []) ++ (person "   2" " 0.0" "   2" ((102, "0000 - U") ∷ []) ++ person "   3" " 0.0" "   3" ((92, "0000 - U") ∷ [])))) 15 3 2 ∷
-    refuses (cup ++ person "   1" " 0.0" "   1" ((92, "0000 - Z     1 w 1     1 w 1") ∷ [])) 12 2 2 ∷ []
+-- ---- an event with most records
+unfoldable pub roeLine : String → List ℕ
+roeLine entries = put 1 ((1, "001") ∷ (5, "  12") ∷ (10, "mGM") ∷ (15, "Roe") ∷ (49, "2401") ∷ (54, "GER") ∷ (58, "12345678901") ∷ (70, "1990/01/02") ∷ (81, "11.0") ∷ (86, "   3") ∷ (92, entries) ∷ []) ++ (13 ∷ [])
 
--- ---- what a result earns, over rounds and scorings
-unfoldable pub scoring : List ℕ
-scoring = line "162  X 0.7    P 2.0    A 0.1    L 0.2    D 1.0    W 3.0"
-
-unfoldable pub worthRows : List Row
-worthRows =
-    accepts (two " 1.0" "   2 w +" " 0.0" "   1 b -") 2 1 0 ∷
-    accepts (cup ++ (scoring ++ person "   1" " 6.2" "   1" ((92, "0000 - F  0000 - H  0000 - U  0000 - Z         Z") ∷ []))) 1 5 0 ∷
-    accepts (scoring ++ two " 3.0" "   2 w W" " 0.2" "   1 b L") 2 1 0 ∷
-    accepts (scoring ++ two " 3.0" "   2 w +" " 0.1" "   1 b -") 2 1 0 ∷
-    accepts (scoring ++ two " 1.0" "   2 w =" " 1.0" "   1 b =") 2 1 0 ∷
-    accepts (scoring ++ two " 1.0" "   2 w D" " 1.0" "   1 b D") 2 1 0 ∷
-    accepts (scoring ++ two " 0.2" "   2 w 0" " 3.0" "   1 b 1") 2 1 0 ∷
-    accepts (cup ++ person "   1" " 2.5" "   1" ((92, "0000 - F  0000 - H  0000 - U  0000 - Z") ∷ [])) 1 4 0 ∷
-    refuses (cup ++ (line "162  W50.0" ++ person "   1" " 0.0" "   1" ((92, "0000 - F  0000 - F") ∷ []))) 16 3 0 ∷
-    refuses (two " 1.0" "   2 w 1" " 0.5" "   1 b 0") 16 3 0 ∷
-    accepts (cup ++ (line "250      05.0 001 001 0001 0001" ++ person "   1" " 0.0" "   1" ((92, "0000 - Z") ∷ []))) 1 1 1 ∷ []
-
--- ---- the tables and the answer
 unfoldable pub event : List ℕ
 event =
-    line "### first" ++ (line "012 Cup  " ++ (line "250      00.5 001 002 0007 9999" ++
-    (put 1 ((1, "001") ∷ (5, "  12") ∷ (10, "mGM") ∷ (15, "Roe") ∷ (49, "2401") ∷ (54, "GER") ∷ (58, "12345678901") ∷ (70, "1990/01/02") ∷ (81, "11.0") ∷ (86, "   3") ∷ (92, "   7 w 1         U") ∷ []) ++
-    (13 ∷ 10 ∷ (line "022 x" ++
-    (line "250       1.0   3   3    1    1" ++
+    line "### first" ++ (line "012 Cup  " ++ (line "250      00.5 001 002 0007 9999" ++ (roeLine "   7 w 1         U" ++ (10 ∷ (line "022 x" ++ (line "250       1.0   3   3    1    1" ++
     (person "   7" " 0.0" "   1" ((92, "  12 b 0     0") ∷ []) ++ (line "162  W10.0    D 1.5" ++ (line "152 B" ++ line "142 3")))))))))
 
-unfoldable pub tableRows : List Row
-tableRows =
-    stores event
+-- and what the writer makes of it
+unfoldable pub eventWritten : List ℕ
+eventWritten =
+    line "012 Cup" ++ (line "022 x" ++ (line "142 3" ++ (line "152 B" ++ (line "162  W10.0    D 1.5    L 0.0    A 0.0    P 1.0    X 0.5" ++
+    (line "250      00.5 001 002 0007 9999" ++ (line "250      01.0 003 003 0001 0001" ++ (roeLine "   7 w 1  0000 - U  0000 - Z" ++ person "   7" " 0.0" "   1" ((92, "  12 b 0  0000 - Z  0000 - Z") ∷ []))))))))
+
+-- the highest numbers that lines state
+unfoldable pub highest : List ℕ
+highest = cup ++ (line "142 1" ++ (line "162  W99.9    D10.5    L20.0    A30.1    P40.2    X50.3" ++ (line "250      99.9 020 020 9999 9999" ++ (line "250      10.5 001 010 1005 1050" ++ person "9999" "99.9" "9999" ((92, "0000 - F") ∷ [])))))
+
+-- points for rounds 2 and 3 and start numbers 5 to 9, and players at and beside these
+unfoldable pub accelerated : List ℕ
+accelerated =
+    cup ++ (line "142 4" ++ (line "250      12.5 002 003 0005 0009" ++
+    (person "   4" " 0.0" "   1" [] ++ (person "   5" " 0.0" "   2" [] ++ (person "   9" " 0.0" "   3" [] ++ person "  10" " 0.0" "   4" [])))))
+
+-- refused: a wrong sum
+unfoldable pub wrongSum : List ℕ
+wrongSum = two " 0.5" "   2 w 1" " 0.0" "   1 b 0"
+
+-- ---- the rows
+unfoldable pub guardRows : List Computed
+unfolding put person keptRow rowWith rowOfTexts crlf-line alone two twoAt after note fullText scoring roeLine event eventWritten highest accelerated wrongSum line cup roe poe sampleT test cells flat top scoringOf shares covers kindOf normal usedRounds roundsOf tournamentOf isBye isGame fits keeps worth earned isPast contentOf answerOf isAgain isTooMany linesOf isFileFault labels writtenLines written earnedBefore accelerationFor refusedAnswer writtenAnswer scoreAnswer itemOf outcomeOf
+guardRows =
+    -- ---- lines and terminators
+    (accepts (crlf-line "012 Cup" ++ alone) 1 0 0, refl) ∷ (accepts (cup ++ (13 ∷ 13 ∷ 10 ∷ alone)) 1 0 0, refl) ∷
+    (refuses (crlf-line "012 Cup" ++ (10 ∷ alone)) 3 2 0, refl) ∷ (refuses (ascii "012 Cup\n") 3 1 0, refl) ∷ (refuses (ascii "012 Cup") 4 1 0, refl) ∷
+    (refuses (cup ++ ascii "  ") 4 2 0, refl) ∷ (refuses (cup ++ line "013\t") 3 2 0, refl) ∷ (refuses (cup ++ (ascii "022 " ++ (31 ∷ 13 ∷ []))) 3 2 0, refl) ∷
+    (refuses (cup ++ (ascii "022 " ++ (127 ∷ 13 ∷ []))) 3 2 0, refl) ∷ (refuses (cup ++ (ascii "022 " ++ (256 ∷ 13 ∷ []))) 3 2 0, refl) ∷
+    (accepts (cup ++ (ascii "022 " ++ (126 ∷ 128 ∷ 255 ∷ 13 ∷ alone))) 1 0 0, refl) ∷ (refuses (replicate 512 32 ++ (13 ∷ [])) 10 0 0, refl) ∷
+    (refuses (cup ++ (replicate 513 32 ++ (13 ∷ []))) 5 2 0, refl) ∷ (refuses (ascii "###" ++ (replicate 510 120 ++ (13 ∷ []))) 5 1 0, refl) ∷
+    (refuses (ascii "013" ++ (replicate 510 120 ++ (13 ∷ []))) 5 1 0, refl) ∷ (refuses (ascii "012" ++ replicate 510 120) 4 1 0, refl) ∷
+    (refuses (line "013 x" ++ line "\t") 6 1 0, refl) ∷ (refuses (line "###x" ++ (cup ++ line " ###")) 6 3 0, refl) ∷ (refuses (line "01") 6 1 0, refl) ∷
+    (refuses (line "013x") 6 1 0, refl) ∷ (refuses (line "012x") 7 1 0, refl) ∷ (refuses (line "082 1") 6 1 0, refl) ∷ (refuses (cup ++ line "352 WBWB") 6 2 0, refl) ∷
+    -- ---- once only, and the order of 7, 8, 10, 11, 17, 12
+    (refuses (line "022 a" ++ line "022 b") 8 2 0, refl) ∷ (accepts (cup ++ (line "112 a" ++ (line "112 a" ++ alone))) 1 0 0, refl) ∷
+    (refuses (cup ++ line "012") 7 2 0, refl) ∷ (refuses (line "142 1" ++ line "142 1") 8 2 0, refl) ∷ (refuses (line "152 W" ++ line "152 B") 8 2 0, refl) ∷
+    (refuses (line "162  W 1.0" ++ line "162  D 1.0") 8 2 0, refl) ∷ (refuses (person "   7" " 0.0" "   1" [] ++ person "0007" " 0.0" "   2" []) 8 2 0, refl) ∷
+    (refuses cup 10 0 0, refl) ∷ (refuses alone 10 0 0, refl) ∷ (refuses (line "142 0" ++ person "   1" " 0.0" "   1" ((99, "Z") ∷ [])) 10 0 0, refl) ∷
+    (refuses (cup ++ (line "250      01.0 001 002 0001 0001" ++ (line "250      01.0 002 002 0001 0001" ++ (line "142 0" ++ person "   1" " 0.0" "   1" ((92, "   9") ∷ []))))) 11 5 1, refl) ∷
+    (refuses (cup ++ (line "250      01.0 001 002 0001 0001" ++ (line "250      01.0 002 002 0001 0001" ++ person "   1" " 0.0" "   1" ((92, "   9") ∷ [])))) 17 3 0, refl) ∷
+    (accepts (cup ++ (line "250      01.0 001 002 0001 0001" ++ (line "250      01.0 002 002 0002 0003" ++ (line "250      01.0 003 004 0001 0001" ++ alone)))) 1 0 3, refl) ∷
+    (accepts (cup ++ (line "250      01.0 003 004 0005 0009" ++ (line "250      01.0 001 002 0005 0009" ++ (line "250      01.0 003 004 0001 0004" ++ alone)))) 1 0 3, refl) ∷
+    (refuses (cup ++ (line "142 1" ++ person "   1" " 0.0" "   1" ((92, "0000 - Z  0000 - Z") ∷ []))) 11 3 2, refl) ∷
+    (refuses (cup ++ (line "142 0" ++ person "   1" " 0.0" "   1" ((109, "Z") ∷ (119, "Z") ∷ []))) 11 3 2, refl) ∷
+    (refuses (line "022 a" ++ (line "032 b" ++ line "022 c")) 8 3 0, refl) ∷
+    (refuses (person "   7" " 0.0" "   1" [] ++ (person "   8" " 0.0" "   2" [] ++ person "   7" " 0.0" "   3" [])) 8 3 0, refl) ∷
+    -- 11: the first player in file order counts, then the lowest round
+    (refuses (cup ++ (line "142 1" ++ (person "   1" " 0.0" "   1" ((119, "Z") ∷ []) ++ person "   2" " 0.0" "   2" ((109, "Z") ∷ [])))) 11 3 3, refl) ∷
+    (refuses (cup ++ (line "142 2" ++ (person "   1" " 0.0" "   1" ((109, "Z") ∷ []) ++ person "   2" " 0.0" "   2" ((112, "0000") ∷ [])))) 11 4 3, refl) ∷
+    (refuses (cup ++ (line "142 19" ++ person "   1" " 0.0" "   1" ((287, "-") ∷ []))) 11 3 20, refl) ∷
+    -- 17: one round and one start number in common, from either side; the first record that shares with an earlier one
+    (refuses (after (line "250      01.0 002 003 0005 0009" ++ line "250      01.0 001 002 0001 0005")) 17 3 0, refl) ∷
+    (refuses (after (line "250      01.0 001 002 0001 0005" ++ line "250      01.0 002 003 0005 0009")) 17 3 0, refl) ∷
+    (refuses (after (line "250      01.0 001 009 0001 0009" ++ line "250      01.0 004 004 0004 0004")) 17 3 0, refl) ∷
+    (refuses (after (line "250      01.0 001 001 0001 0001" ++ (line "250      01.0 002 002 0001 0001" ++ (line "250      01.0 001 001 0001 0001" ++ line "250      01.0 002 002 0001 0001")))) 17 4 0, refl) ∷
+    -- ---- text up to 2,048 bytes; then 8 before 9
+    (refuses fullText 10 0 0, refl) ∷ (refuses (fullText ++ line "112") 9 6 0, refl) ∷ (refuses (fullText ++ cup) 8 6 0, refl) ∷
+    -- ---- a round's entry
+    -- byes in every spelling, small letters, an id of 0
+    (accepts (cup ++ person "   1" " 1.5" "   1" ((92, "   0 - h     0   F") ∷ (117, "-") ∷ [])) 1 3 0, refl) ∷
+    (accepts (cup ++ person "   1" " 0.0" "   1" ((219, "z") ∷ [])) 1 13 0, refl) ∷ (accepts (cup ++ person "   1" " 0.0" "   1" ((289, "Z") ∷ [])) 1 20 0, refl) ∷
+    (accepts (two " 1.0" "   2 b w" " 0.0" "   1 w L") 2 1 0, refl) ∷ (accepts (two " 0.0" "   2 b 0" " 1.0" "   1 w 1") 2 1 0, refl) ∷
+    (accepts (two " 0.5" "   2 b d" " 0.5" "   1 w D") 2 1 0, refl) ∷ (accepts (two " 0.5" "   2 b =" " 0.5" "   1 w =") 2 1 0, refl) ∷
+    -- neither bye nor game
+    (refuses (two " 0.0" "   2 w  " " 0.0" "   1 b 0") 12 2 1, refl) ∷ (refuses (two " 0.0" "   2   1" " 0.0" "   1 b 0") 12 2 1, refl) ∷
+    (refuses (two " 0.0" "   2 - 1" " 0.0" "   1 b 0") 12 2 1, refl) ∷ (refuses (two " 0.0" "   2 w H" " 0.0" "   1 b 0") 12 2 1, refl) ∷
+    (refuses (two " 0.0" "   3 w 1" " 0.0" "   1 b 0") 12 2 1, refl) ∷ (refuses (two " 0.0" "0000 w Z" " 0.0" "0000 - Z") 12 2 1, refl) ∷
+    (refuses (two " 0.0" "0000 - -" " 0.0" "0000 - Z") 12 2 1, refl) ∷ (refuses (two " 0.0" "0000 - 1" " 0.0" "0000 - Z") 12 2 1, refl) ∷
+    (refuses (two " 0.0" "     w  " " 0.0" "        ") 12 2 1, refl) ∷
+    -- 12 over the whole file before 13, 13 before 14, 14 before 15, 15 before 16
+    (refuses (two " 1.0" "   2 w 1" " 0.0" "   9 b 0") 12 3 1, refl) ∷
+    (refuses (cup ++ (person "   1" " 1.0" "   1" ((92, "   2 w 1     2 w 1") ∷ []) ++ person "   2" " 0.0" "   2" ((92, "   1 b =  0000 - Z") ∷ []))) 13 2 2, refl) ∷
+    (refuses (cup ++ (person "   1" " 9.0" "   1" ((92, "   2 w 1  0000 - U") ∷ []) ++ person "   2" " 0.0" "   2" ((92, "   1 b 1  0000 - U") ∷ []))) 14 2 1, refl) ∷
+    (refuses (two " 9.0" "0000 - U" " 1.0" "0000 - U") 15 3 1, refl) ∷
+    -- not mutual, seen from the higher number
+    (refuses (cup ++ (person "   1" " 1.0" "   1" ((92, "   2 w 1") ∷ []) ++ (person "   2" " 0.0" "   2" ((92, "   1 b 0") ∷ []) ++ person "   3" " 0.0" "   3" ((92, "   1 b 0") ∷ [])))) 13 4 1, refl) ∷
+    (refuses (two " 0.0" "0000 - Z" " 1.0" "   1 b 1") 13 3 1, refl) ∷ (refuses (two " 0.0" "   2 w +" " 0.0" "   1 b +") 14 2 1, refl) ∷
+    (refuses (two " 0.0" "   2 w 1" " 0.0" "   1 b L") 14 2 1, refl) ∷ (refuses (two " 0.0" "   2 w 0" " 0.0" "   1 b 0") 14 2 1, refl) ∷
+    (refuses (two " 0.0" "   2 w D" " 0.0" "   1 b =") 14 2 1, refl) ∷
+    -- the first player with a fault, then the lowest round
+    (refuses (cup ++ (person "   1" " 0.0" "   1" ((92, "0000 - U  0000 - U") ∷ []) ++ (person "   2" " 0.0" "   2" ((102, "0000 - U") ∷ []) ++ person "   3" " 0.0" "   3" ((92, "0000 - U") ∷ [])))) 15 3 2, refl) ∷
+    (refuses (cup ++ person "   1" " 0.0" "   1" ((92, "0000 - Z     1 w 1     1 w 1") ∷ [])) 12 2 2, refl) ∷
+    -- not mutual: both black; the opponent's entry of another round; from the third line, in the last round
+    (refuses (two " 1.0" "   2 b 1" " 0.0" "   1 b 0") 13 2 1, refl) ∷
+    (refuses (cup ++ (person "   1" " 1.0" "   1" ((92, "   2 w 1") ∷ []) ++ person "   2" " 0.0" "   2" ((102, "   1 b 0") ∷ []))) 13 2 1, refl) ∷
+    (refuses (cup ++ (person "   1" " 0.0" "   1" [] ++ (person "   2" " 0.0" "   2" [] ++ person "   3" " 0.0" "   3" ((282, "   1 w 1") ∷ [])))) 13 4 20, refl) ∷
+    -- in later rounds
+    (accepts (twoAt 282 " 1.0" "   2 w 1" " 0.0" "   1 b 0") 2 20 0, refl) ∷ (refuses (twoAt 282 " 1.0" "   2 w 1" " 0.0" "   9 b 0") 12 3 20, refl) ∷
+    (refuses (twoAt 282 " 1.0" "   2 w 1" " 0.0" "   1 w 0") 13 2 20, refl) ∷ (refuses (twoAt 112 " 1.0" "   2 w +" " 0.0" "   1 b 0") 14 2 3, refl) ∷
+    (refuses (twoAt 112 " 1.0" "0000 - U" " 1.0" "0000 - U") 15 3 3, refl) ∷ (refuses (twoAt 282 " 1.0" "0000 - u" " 1.0" "0000 - U") 15 3 20, refl) ∷
+    (refuses (cup ++ (alone ++ (person "   2" " 1.0" "   2" ((92, "0000 - U") ∷ []) ++ person "   3" " 1.0" "   3" ((92, "0000 - U") ∷ [])))) 15 4 1, refl) ∷
+    (accepts (cup ++ (person "   1" " 1.0" "   1" ((92, "0000 - U") ∷ []) ++ person "   2" " 1.0" "   2" ((102, "0000 - U") ∷ []))) 2 2 0, refl) ∷
+    -- the number of rounds with no 142: by id, colour or result alone, of any player
+    (accepts (cup ++ (person "   1" " 0.0" "   1" ((92, "0000 - Z") ∷ []) ++ person "   2" " 0.0" "   2" ((112, "0000") ∷ []))) 2 3 0, refl) ∷
+    (accepts (cup ++ (person "   1" " 0.0" "   1" ((187, "-") ∷ []) ++ person "   2" " 0.0" "   2" ((92, "0000 - Z") ∷ []))) 2 10 0, refl) ∷
+    -- ---- which results fit, from either side
+    (fitting (code "1") (ascii "0") (ascii "1=WDL+-HFUZ"), refl) ∷ (fitting (code "=") (ascii "=") (ascii "10WDL+-HFUZ"), refl) ∷
+    (fitting (code "0") (ascii "1") (ascii "=0WDL+-HFUZ"), refl) ∷ (fitting (code "W") (ascii "L") (ascii "1=0WD+-HFUZ"), refl) ∷
+    (fitting (code "D") (ascii "D") (ascii "1=0WL+-HFUZ"), refl) ∷ (fitting (code "L") (ascii "W") (ascii "1=0DL+-HFUZ"), refl) ∷
+    (fitting (code "+") (ascii "-") (ascii "1=0WDL+HFUZ"), refl) ∷ (fitting (code "-") (ascii "+-") (ascii "1=0WDLHFUZ"), refl) ∷
+    -- ---- what a result earns, over rounds and scorings
+    (accepts (two " 1.0" "   2 w +" " 0.0" "   1 b -") 2 1 0, refl) ∷
+    (accepts (cup ++ (line scoring ++ person "   1" " 6.2" "   1" ((92, "0000 - F  0000 - H  0000 - U  0000 - Z         Z") ∷ []))) 1 5 0, refl) ∷
+    (accepts (line scoring ++ two " 3.0" "   2 w W" " 0.2" "   1 b L") 2 1 0, refl) ∷ (accepts (line scoring ++ two " 3.0" "   2 w +" " 0.1" "   1 b -") 2 1 0, refl) ∷
+    (accepts (line scoring ++ two " 1.0" "   2 w =" " 1.0" "   1 b =") 2 1 0, refl) ∷ (accepts (line scoring ++ two " 1.0" "   2 w D" " 1.0" "   1 b D") 2 1 0, refl) ∷
+    (accepts (line scoring ++ two " 0.2" "   2 w 0" " 3.0" "   1 b 1") 2 1 0, refl) ∷
+    (accepts (cup ++ person "   1" " 2.5" "   1" ((92, "0000 - F  0000 - H  0000 - U  0000 - Z") ∷ [])) 1 4 0, refl) ∷
+    (refuses (cup ++ (line "162  W50.0" ++ person "   1" " 0.0" "   1" ((92, "0000 - F  0000 - F") ∷ []))) 16 3 0, refl) ∷
+    (refuses (two " 1.0" "   2 w 1" " 0.5" "   1 b 0") 16 3 0, refl) ∷
+    (accepts (cup ++ (line "250      05.0 001 001 0001 0001" ++ person "   1" " 0.0" "   1" ((92, "0000 - Z") ∷ []))) 1 1 1, refl) ∷
+    (scores (ascii scoring) (ascii "1") 30, refl) ∷ (scores (ascii scoring) (ascii "W") 30, refl) ∷ (scores (ascii scoring) (ascii "+") 30, refl) ∷
+    (scores (ascii scoring) (ascii "F") 30, refl) ∷ (scores (ascii scoring) (ascii "=") 10, refl) ∷ (scores (ascii scoring) (ascii "D") 10, refl) ∷
+    (scores (ascii scoring) (ascii "H") 10, refl) ∷ (scores (ascii scoring) (ascii "0") 2, refl) ∷ (scores (ascii scoring) (ascii "L") 2, refl) ∷
+    (scores (ascii scoring) (ascii "-") 1, refl) ∷ (scores (ascii scoring) (ascii "Z") 1, refl) ∷ (scores (ascii scoring) (ascii "U") 20, refl) ∷
+    (scores (ascii "162  X 0.7") (ascii "1W+F=DH0L-ZU") 65, refl) ∷ (scores (ascii scoring) (ascii "1W+F=DH0L-ZU") 176, refl) ∷
+    (refuses (cup ++ (alone ++ (person "   2" " 0.0" "   2" [] ++ person "   3" "10.0" "   3" []))) 16 4 0, refl) ∷
+    -- ---- the tables and the answer
+    (stores event
     ((starts, 0, 12) ∷ (starts, 1, 7) ∷ (starts, 2, 0) ∷ (points, 0, 110) ∷ (points, 1, 0) ∷ (ranks, 0, 3) ∷ (ranks, 1, 1) ∷ (ranks, 2, 0) ∷
     (kept, 0, code "m") ∷ (kept, 1, code "G") ∷ (kept, 5, code "R") ∷ (kept, 69, code "2") ∷ (kept, 70, 32) ∷ (kept, 139, 32) ∷ (kept, 140, 0) ∷
     (opponents, 0, 7) ∷ (opponents, 1, 0) ∷ (opponents, 3, 0) ∷ (opponents, 20, 12) ∷ (opponents, 21, 0) ∷ (colours, 0, code "w") ∷ (colours, 1, code "-") ∷ (colours, 2, code "-") ∷ (colours, 3, 0) ∷
     (colours, 20, code "b") ∷ (colours, 21, code "-") ∷ (colours, 22, code "-") ∷ (colours, 23, 0) ∷ (colours, 40, 0) ∷ (results, 0, code "1") ∷ (results, 1, code "U") ∷ (results, 2, code "Z") ∷ (results, 3, 0) ∷
     (results, 20, code "0") ∷ (results, 21, code "Z") ∷ (results, 22, code "Z") ∷ (results, 23, 0) ∷
     (text, 0, code "0") ∷ (text, 6, code "p") ∷ (text, 7, 13) ∷ (text, 8, code "0") ∷ (text, 12, code "x") ∷ (text, 13, 13) ∷ (text, 14, 0) ∷ (text-length, 0, 14) ∷
-    (added, 0, 5) ∷ (first-rounds, 0, 1) ∷ (last-rounds, 0, 2) ∷ (first-starts, 0, 7) ∷ (last-starts, 0, 9999) ∷ (added, 1, 10) ∷ (first-rounds, 1, 3) ∷ (last-starts, 1, 1) ∷ (added, 2, 0) ∷ (last-starts, 31, 0) ∷
+    (added, 0, 5) ∷ (first-rounds, 0, 1) ∷ (last-rounds, 0, 2) ∷ (first-starts, 0, 7) ∷ (last-starts, 0, 9999) ∷ (added, 1, 10) ∷ (first-rounds, 1, 3) ∷ (last-rounds, 1, 3) ∷ (first-starts, 1, 1) ∷ (last-starts, 1, 1) ∷ (added, 2, 0) ∷ (last-starts, 31, 0) ∷
     (lines, 0, 4) ∷ (lines, 1, 7) ∷ (lines, 2, 0) ∷ (lines, 199, 0) ∷ (lines, 200, 3) ∷ (lines, 201, 6) ∷ (lines, 202, 0) ∷ (lines, 231, 0) ∷
-    (initial-colour, 0, code "B") ∷ (value, 0, 100) ∷ (value, 1, 15) ∷ (value, 2, 0) ∷ (value, 3, 0) ∷ (value, 4, 10) ∷ (value, 5, 5) ∷ []) ∷
-    stores (cup ++ (scoring ++ alone)) ((initial-colour, 0, 0) ∷ (value, 0, 30) ∷ (value, 1, 10) ∷ (value, 2, 2) ∷ (value, 3, 1) ∷ (value, 4, 20) ∷ (value, 5, 7) ∷ []) ∷
-    accepts event 2 3 2 ∷ []
+    (initial-colour, 0, code "B") ∷ (value, 0, 100) ∷ (value, 1, 15) ∷ (value, 2, 0) ∷ (value, 3, 0) ∷ (value, 4, 10) ∷ (value, 5, 5) ∷ []), refl) ∷
+    (stores (cup ++ (line scoring ++ alone)) ((initial-colour, 0, 0) ∷ (value, 0, 30) ∷ (value, 1, 10) ∷ (value, 2, 2) ∷ (value, 3, 1) ∷ (value, 4, 20) ∷ (value, 5, 7) ∷ []), refl) ∷
+    (accepts event 2 3 2, refl) ∷
+    (stores highest ((starts, 0, 9999) ∷ (points, 0, 999) ∷ (ranks, 0, 9999) ∷ (added, 0, 999) ∷ (first-rounds, 0, 20) ∷ (last-rounds, 0, 20) ∷ (first-starts, 0, 9999) ∷ (added, 1, 105) ∷ (last-rounds, 1, 10) ∷ (first-starts, 1, 1005) ∷ (last-starts, 1, 1050) ∷
+        (value, 0, 999) ∷ (value, 1, 105) ∷ (value, 2, 200) ∷ (value, 3, 301) ∷ (value, 4, 402) ∷ (value, 5, 503) ∷ []), refl) ∷
+    (stores (cup ++ (line "162  X 0.7" ++ alone)) ((value, 0, 10) ∷ (value, 1, 5) ∷ (value, 2, 0) ∷ (value, 3, 0) ∷ (value, 4, 10) ∷ (value, 5, 7) ∷ []), refl) ∷
+    (stores (cup ++ (line "152 W" ++ alone)) ((initial-colour, 0, code "W") ∷ (value, 0, 10) ∷ (value, 1, 5) ∷ (value, 2, 0) ∷ (value, 3, 0) ∷ (value, 4, 10) ∷ (value, 5, 5) ∷ []), refl) ∷
+    -- ---- the writer: exact room, more room, one byte short, no room; and the highest numbers
+    (writes as-left event ((386, 0, eventWritten) ∷ (400, 0, eventWritten) ∷ (385, 19, []) ∷ (0, 19, []) ∷ []), refl) ∷
+    (writes as-left (two " 1.0" "   2 w +" " 0.0" "   1 b -" ++ line "142 020")
+        ((700, 0, cup ++ (line "142 20" ++ (line "162  W 1.0    D 0.5    L 0.0    A 0.0    P 1.0    X 0.5" ++
+        (person "   1" " 1.0" "   1" ((92, "   2 w +  0000 - Z  0000 - Z  0000 - Z  0000 - Z  0000 - Z  0000 - Z  0000 - Z  0000 - Z  0000 - Z  0000 - Z  0000 - Z  0000 - Z  0000 - Z  0000 - Z  0000 - Z  0000 - Z  0000 - Z  0000 - Z  0000 - Z") ∷ []) ++
+        person "   2" " 0.0" "   2" ((92, "   1 b -  0000 - Z  0000 - Z  0000 - Z  0000 - Z  0000 - Z  0000 - Z  0000 - Z  0000 - Z  0000 - Z  0000 - Z  0000 - Z  0000 - Z  0000 - Z  0000 - Z  0000 - Z  0000 - Z  0000 - Z  0000 - Z  0000 - Z") ∷ []))))) ∷ []), refl) ∷
+    (writes as-left highest ((234, 0, highest) ∷ []), refl) ∷
+    -- ---- the question
+    (asks as-left event ((0, 1, 0, 0, 5) ∷ (0, 2, 0, 100, 5) ∷ (0, 3, 0, 110, 0) ∷ (1, 1, 0, 0, 5) ∷ (1, 3, 0, 0, 0) ∷ (2, 1, 20, 0, 0) ∷ (9, 1, 20, 0, 0) ∷ (0, 0, 20, 0, 0) ∷ (1, 4, 20, 0, 0) ∷ (2, 0, 20, 0, 0) ∷ []), refl) ∷
+    (asks as-left accelerated ((0, 2, 0, 0, 0) ∷ (1, 1, 0, 0, 0) ∷ (1, 2, 0, 0, 125) ∷ (1, 3, 0, 0, 125) ∷ (1, 4, 0, 0, 0) ∷ (2, 3, 0, 0, 125) ∷ (3, 2, 0, 0, 0) ∷ (3, 5, 20, 0, 0) ∷ (4, 4, 20, 0, 0) ∷ []), refl) ∷
+    (asks as-left (after []) ((0, 1, 20, 0, 0) ∷ []), refl) ∷
+    -- ---- refused answers: 18, with room and without, at any place; tables that are too short: 1, whatever else is wrong
+    (writes as-left wrongSum ((700, 18, []) ∷ (0, 18, []) ∷ []), refl) ∷ (writes as-left [] ((700, 18, []) ∷ (0, 18, []) ∷ []), refl) ∷
+    (asks as-left wrongSum ((0, 1, 18, 0, 0) ∷ (2, 0, 18, 0, 0) ∷ []), refl) ∷ (asks as-left [] ((0, 1, 18, 0, 0) ∷ (0, 0, 18, 0, 0) ∷ []), refl) ∷
+    (writes cut-short sampleT ((700, 1, []) ∷ (0, 1, []) ∷ []), refl) ∷ (writes cut-short wrongSum ((700, 1, []) ∷ (0, 1, []) ∷ []), refl) ∷
+    (asks cut-short sampleT ((0, 1, 1, 0, 0) ∷ (2, 0, 1, 0, 0) ∷ []), refl) ∷ (asks cut-short wrongSum ((0, 1, 1, 0, 0) ∷ (2, 0, 1, 0, 0) ∷ []), refl) ∷
+    -- ---- rows of one line that spell an item
+    (spells (ascii ""), refl) ∷ (spells (ascii "   "), refl) ∷ (spells (ascii "### any"), refl) ∷ (spells (ascii "162  W 3.0    D 1.0"), refl) ∷
+    (spells (ascii "162  X10.5   "), refl) ∷ (spells (ascii "162  W 1.0    D 0.5    L 0.0    A 0.0    P 1.0    X 0.5    "), refl) ∷
+    (spells (ascii "250       1.0   1  20    1 9999"), refl) ∷ (spells (ascii "250      01.0 003 003 0090 0090  "), refl) ∷
+    (spells (ascii "250      99.9 020 020 9999 9999"), refl) ∷ (spells (ascii "142 0"), refl) ∷ (spells (ascii "142 007  "), refl) ∷ (spells (ascii "142 20"), refl) ∷
+    (spells (ascii "152 W"), refl) ∷ (spells (ascii "152 B   "), refl) ∷ (spells (ascii "012 Cup"), refl) ∷ (spells (ascii "022"), refl) ∷ (spells (ascii "022    "), refl) ∷
+    (spells (ascii "022 x"), refl) ∷ (spells (ascii "032 x"), refl) ∷ (spells (ascii "042 x"), refl) ∷ (spells (ascii "052 x"), refl) ∷ (spells (ascii "062 x"), refl) ∷
+    (spells (ascii "072 x"), refl) ∷ (spells (ascii "092 x"), refl) ∷ (spells (ascii "102 x"), refl) ∷ (spells (ascii "112 x"), refl) ∷ (spells (ascii "122 x"), refl) ∷
+    (spells (ascii "132 x"), refl) ∷ (spells (ascii "192 x"), refl) ∷ (spells (ascii "202 x"), refl) ∷ (spells (ascii "212 x"), refl) ∷ (spells (ascii "222 x"), refl) ∷
+    (spells (ascii "162  D99.9    L10.0"), refl) ∷ (spells (ascii "162  A 0.0    P 0.0    X 0.0"), refl) ∷ (spells (ascii "112"), refl) ∷
+    -- ---- and that spell none
+    (spells-nothing (ascii "162"), refl) ∷ (spells-nothing (ascii "162  W 1.0    W 1.0"), refl) ∷ (spells-nothing (ascii "162           D 0.5"), refl) ∷
+    (spells-nothing (ascii "162  W 1.0             L 0.0"), refl) ∷ (spells-nothing (ascii "162  W 1.0 x"), refl) ∷ (spells-nothing (ascii "162  w 1.0"), refl) ∷
+    (spells-nothing (ascii "162 W 1.0"), refl) ∷ (spells-nothing (ascii "162 xW 1.0"), refl) ∷ (spells-nothing (ascii "162x W 1.0"), refl) ∷
+    (spells-nothing (ascii "162  W  .5"), refl) ∷ (spells-nothing (ascii "162  W 1,0"), refl) ∷ (spells-nothing (ascii "162  Y 1.0"), refl) ∷
+    (spells-nothing (ascii "162  W 1.0    D 0.5    L 0.0    A 0.0    P 1.0    X 0.5    W 1.0"), refl) ∷
+    (spells-nothing (ascii "162  W 1.0    D 0.5    L 0.0    A 0.0    P 1.0    X 0.5x"), refl) ∷ (spells-nothing (ascii "250      00.0 001 003 0001 0090"), refl) ∷
+    (spells-nothing (ascii "250      01.0 004 003 0001 0090"), refl) ∷ (spells-nothing (ascii "250      01.0 001 021 0001 0090"), refl) ∷
+    (spells-nothing (ascii "250      01.0 021 021 0001 0090"), refl) ∷ (spells-nothing (ascii "250      01.0 000 003 0001 0090"), refl) ∷
+    (spells-nothing (ascii "250      01.0 001 003 0091 0090"), refl) ∷ (spells-nothing (ascii "250      01.0 001 003 0000 0090"), refl) ∷
+    (spells-nothing (ascii "250 0001 01.0 001 003 0001 0090"), refl) ∷ (spells-nothing (ascii "250x     01.0 001 003 0001 0090"), refl) ∷
+    (spells-nothing (ascii "250      01.0 001 003 0001 0090 x"), refl) ∷ (spells-nothing (ascii "250      01.0 001 003 0001     "), refl) ∷
+    (spells-nothing (ascii "250      01.0x001 003 0001 0090"), refl) ∷ (spells-nothing (ascii "250      01.0 001x003 0001 0090"), refl) ∷
+    (spells-nothing (ascii "250      01.0 001 003x0001 0090"), refl) ∷ (spells-nothing (ascii "250      01.0 001 003 0001x0090"), refl) ∷
+    (spells-nothing (ascii "250     x01.0 001 003 0001 0090"), refl) ∷ (spells-nothing (ascii "250      01.0 1   003 0001 0090"), refl) ∷
+    (spells-nothing (ascii "142 "), refl) ∷ (spells-nothing (ascii "142 21"), refl) ∷ (spells-nothing (ascii "142  3"), refl) ∷ (spells-nothing (ascii "142 0003"), refl) ∷
+    (spells-nothing (ascii "142 3 4"), refl) ∷ (spells-nothing (ascii "142x3"), refl) ∷ (spells-nothing (ascii "142 x"), refl) ∷ (spells-nothing (ascii "152 w"), refl) ∷
+    (spells-nothing (ascii "152  W"), refl) ∷ (spells-nothing (ascii "152 WB"), refl) ∷ (spells-nothing (ascii "152xW"), refl) ∷ (spells-nothing (ascii "152"), refl) ∷
+    (spells-nothing (ascii "012"), refl) ∷ (spells-nothing (ascii "012   "), refl) ∷ (spells-nothing (ascii "012xCup"), refl) ∷ (spells-nothing (ascii "022x"), refl) ∷
+    (spells-nothing (ascii "013 Team"), refl) ∷ (spells-nothing (ascii "01"), refl) ∷ (spells-nothing (ascii "082 x"), refl) ∷ (spells-nothing (ascii "172 x"), refl) ∷
+    (spells-nothing (ascii "352 x"), refl) ∷ (spells-nothing (ascii "362 x"), refl) ∷ (spells-nothing (ascii "142"), refl) ∷ (spells-nothing (ascii "162  W 1. "), refl) ∷
+    (spells-nothing (ascii "162  Wx1.0"), refl) ∷ (spells-nothing (ascii "162  W 1.0    Dx"), refl) ∷ (spells-nothing (ascii "162  W  1.0"), refl) ∷
+    (spells-nothing (ascii "162  A 1.0    A 1.0"), refl) ∷ (spells-nothing (ascii "162  W 1:0"), refl) ∷ (spells-nothing (ascii "250      01.0 001 003 0001 0000"), refl) ∷
+    (spells-nothing (ascii "250         0 001 003 0001 0090"), refl) ∷ (spells-nothing (ascii "250      01.0     003 0001 0090"), refl) ∷
+    (spells-nothing (ascii "250      01.0 001     0001 0090"), refl) ∷ (spells-nothing (ascii "250      01.0 001 003      0090"), refl) ∷
+    (spells-nothing (ascii "142 1x"), refl) ∷ (spells-nothing (ascii "142 /"), refl) ∷ (spells-nothing (ascii "142 :"), refl) ∷ (spells-nothing (ascii "152 X"), refl) ∷
+    (spells-nothing (ascii "152 b"), refl) ∷ (spells-nothing (ascii "152 W x"), refl) ∷ (spells-nothing (ascii "## 4"), refl) ∷ (spells-nothing (ascii "001"), refl) ∷
+    -- ---- 001: the kept columns and the others
+    (spells (rowWith []), refl) ∷ (spells (rowWith ((92, "9999 b -") ∷ [])), refl) ∷ (spells (rowWith ((282, "0000 - z") ∷ [])), refl) ∷ (spells (keptRow 10 "m"), refl) ∷
+    (spells (keptRow 10 "w"), refl) ∷ (spells-nothing (keptRow 10 "M"), refl) ∷ (spells-nothing (keptRow 10 "f"), refl) ∷ (spells (keptRow 11 "GM"), refl) ∷
+    (spells (keptRow 11 "IM"), refl) ∷ (spells (keptRow 11 "WGM"), refl) ∷ (spells (keptRow 11 "FM"), refl) ∷ (spells (keptRow 11 "WIM"), refl) ∷
+    (spells (keptRow 11 "CM"), refl) ∷ (spells (keptRow 11 "WFM"), refl) ∷ (spells (keptRow 11 "WCM"), refl) ∷ (spells-nothing (keptRow 12 "GM"), refl) ∷
+    (spells-nothing (keptRow 11 "gm"), refl) ∷ (spells-nothing (keptRow 11 "KM"), refl) ∷ (spells (keptRow 15 "012345678901234567890123456789012"), refl) ∷
+    (spells-nothing (keptRow 15 "0123456789012345678901234567890123"), refl) ∷ (spells-nothing (keptRow 14 "x"), refl) ∷ (spells (keptRow 49 "   0"), refl) ∷
+    (spells (keptRow 49 "0000"), refl) ∷ (spells (keptRow 52 "7"), refl) ∷ (spells-nothing (keptRow 49 "24 1"), refl) ∷ (spells-nothing (keptRow 49 "240 "), refl) ∷
+    (spells-nothing (keptRow 53 "x"), refl) ∷ (spells (keptRow 54 "xyz"), refl) ∷ (spells-nothing (keptRow 57 "x"), refl) ∷ (spells (keptRow 58 "x y z x y z"), refl) ∷
+    (spells-nothing (keptRow 69 "x"), refl) ∷ (spells (keptRow 70 "0000/99/00"), refl) ∷ (spells-nothing (keptRow 70 "1990-01-01"), refl) ∷
+    (spells-nothing (keptRow 70 "1990/1/01 "), refl) ∷ (spells-nothing (keptRow 70 "1990"), refl) ∷ (spells-nothing (keptRow 80 "x"), refl) ∷
+    (spells-nothing (put 1 ((1, "001") ∷ (5, "   0") ∷ (81, " 0.0") ∷ (86, "   1") ∷ [])), refl) ∷
+    (spells (put 1 ((1, "001") ∷ (5, "9999") ∷ (81, "99.9") ∷ (86, "9999") ∷ [])), refl) ∷
+    (spells-nothing (put 1 ((1, "001") ∷ (5, "   1") ∷ (81, " 0.0") ∷ (86, "   0") ∷ [])), refl) ∷
+    (spells-nothing (put 1 ((1, "001") ∷ (5, "   1") ∷ (81, " 0.0") ∷ [])), refl) ∷ (spells-nothing (put 1 ((1, "001") ∷ (5, "   1") ∷ (86, "   1") ∷ [])), refl) ∷
+    (spells-nothing (put 1 ((1, "001") ∷ (81, " 0.0") ∷ (86, "   1") ∷ [])), refl) ∷
+    (spells-nothing (put 1 ((1, "001x") ∷ (5, "   1") ∷ (81, " 0.0") ∷ (86, "   1") ∷ [])), refl) ∷
+    (spells-nothing (put 1 ((1, "001") ∷ (5, "   1") ∷ (9, "x") ∷ (81, " 0.0") ∷ (86, "   1") ∷ [])), refl) ∷
+    (spells-nothing (put 1 ((1, "001") ∷ (5, "   1") ∷ (81, " 0.0") ∷ (85, "x") ∷ (86, "   1") ∷ [])), refl) ∷ (spells-nothing (rowWith ((90, "x") ∷ [])), refl) ∷
+    (spells-nothing (rowWith ((91, "x") ∷ [])), refl) ∷ (spells-nothing (rowWith ((96, "x") ∷ [])), refl) ∷ (spells-nothing (rowWith ((98, "x") ∷ [])), refl) ∷
+    (spells-nothing (rowWith ((100, "x") ∷ [])), refl) ∷ (spells-nothing (rowWith ((281, "x") ∷ [])), refl) ∷ (spells-nothing (rowWith ((288, "x") ∷ [])), refl) ∷
+    (spells-nothing (rowWith ((290, "x") ∷ [])), refl) ∷ (spells-nothing (rowWith ((299, "x") ∷ [])), refl) ∷ (spells-nothing (rowWith ((92, " x  ") ∷ [])), refl) ∷
+    (spells-nothing (rowWith ((97, "W") ∷ [])), refl) ∷ (spells-nothing (rowWith ((97, "B") ∷ [])), refl) ∷ (spells-nothing (rowWith ((99, "?") ∷ [])), refl) ∷
+    (spells-nothing (rowWith ((99, "A") ∷ [])), refl) ∷ (spells-nothing (rowWith ((289, "2") ∷ [])), refl) ∷ (spells-nothing (keptRow 11 "NM"), refl) ∷
+    (spells-nothing (keptRow 11 "WNM"), refl) ∷ (spells-nothing (keptRow 11 "G"), refl) ∷ (spells-nothing (keptRow 11 "wgm"), refl) ∷
+    (spells-nothing (keptRow 11 "MG"), refl) ∷
+    -- nine blanks and a byte; and each place of a date
+    (spells-nothing (keptRow 79 "x"), refl) ∷ (spells-nothing (keptRow 79 "1"), refl) ∷ (spells-nothing (keptRow 70 "x"), refl) ∷
+    (spells-nothing (keptRow 70 "x990/01/02"), refl) ∷ (spells-nothing (keptRow 70 "1x90/01/02"), refl) ∷ (spells-nothing (keptRow 70 "19x0/01/02"), refl) ∷
+    (spells-nothing (keptRow 70 "199x/01/02"), refl) ∷ (spells-nothing (keptRow 70 "1990x01/02"), refl) ∷ (spells-nothing (keptRow 70 "1990/x1/02"), refl) ∷
+    (spells-nothing (keptRow 70 "1990/0x/02"), refl) ∷ (spells-nothing (keptRow 70 "1990/01x02"), refl) ∷ (spells-nothing (keptRow 70 "1990/01/x2"), refl) ∷
+    (spells-nothing (keptRow 70 "1990/01/0x"), refl) ∷ (spells (keptRow 70 "9999/99/99"), refl) ∷
+    -- digits end at 0 and 9; points and numbers in every column
+    (spells-nothing (keptRow 49 "240/"), refl) ∷ (spells-nothing (keptRow 49 "240:"), refl) ∷ (spells-nothing (keptRow 49 "x401"), refl) ∷
+    (spells-nothing (rowOfTexts ((5, "1   ") ∷ (81, " 0.0") ∷ (86, "   1") ∷ [])), refl) ∷
+    (spells-nothing (rowOfTexts ((5, "  1x") ∷ (81, " 0.0") ∷ (86, "   1") ∷ [])), refl) ∷
+    (spells-nothing (rowOfTexts ((5, "   1") ∷ (81, "x0.0") ∷ (86, "   1") ∷ [])), refl) ∷
+    (spells-nothing (rowOfTexts ((5, "   1") ∷ (81, " 0. ") ∷ (86, "   1") ∷ [])), refl) ∷
+    (spells-nothing (rowOfTexts ((5, "   1") ∷ (81, "  .0") ∷ (86, "   1") ∷ [])), refl) ∷
+    (spells-nothing (rowOfTexts ((5, "   1") ∷ (81, " 0,0") ∷ (86, "   1") ∷ [])), refl) ∷
+    (spells-nothing (rowOfTexts ((5, "   1") ∷ (81, " 0.0") ∷ (86, "1   ") ∷ [])), refl) ∷
+    (spells-nothing (rowOfTexts ((5, "   1") ∷ (81, " 0.0") ∷ (86, "   :") ∷ [])), refl) ∷
+    -- every colour and result, capital and small, is a byte of a round
+    (spells (rowWith ((92, "0000 w 1  0000 b =  0000 - 0  0000   W  0000   D  0000   L  0000   +  0000   -  0000   H  0000   F  0000   U  0000   Z  0000   w  0000   d  0000   l  0000   h  0000   f  0000   u  0000   z") ∷ [])), refl) ∷ []
 
--- ---- the writer and the question
-unfoldable pub writerRows : List Row
-writerRows =
-    rewrites event
-    (line "012 Cup" ++ (line "022 x" ++ (line "142 3" ++ (line "152 B" ++ (line "162  W10.0    D 1.5    L 0.0    A 0.0    P 1.0    X 0.5" ++
-    (line "250      00.5 001 002 0007 9999" ++ (line "250      01.0 003 003 0001 0001" ++
-    (put 1 ((1, "001") ∷ (5, "  12") ∷ (10, "mGM") ∷ (15, "Roe") ∷ (49, "2401") ∷ (54, "GER") ∷ (58, "12345678901") ∷ (70, "1990/01/02") ∷ (81, "11.0") ∷ (86, "   3") ∷ (92, "   7 w 1  0000 - U  0000 - Z") ∷ []) ++
-    (13 ∷ person "   7" " 0.0" "   1" ((92, "  12 b 0  0000 - Z  0000 - Z") ∷ [])))))))))) ∷
-    rewrites (two " 1.0" "   2 w +" " 0.0" "   1 b -" ++ line "142 020")
-    (cup ++ (line "142 20" ++ (line "162  W 1.0    D 0.5    L 0.0    A 0.0    P 1.0    X 0.5" ++
-    (person "   1" " 1.0" "   1" ((92, "   2 w +  0000 - Z  0000 - Z  0000 - Z  0000 - Z  0000 - Z  0000 - Z  0000 - Z  0000 - Z  0000 - Z  0000 - Z  0000 - Z  0000 - Z  0000 - Z  0000 - Z  0000 - Z  0000 - Z  0000 - Z  0000 - Z  0000 - Z") ∷ []) ++
-    person "   2" " 0.0" "   2" ((92, "   1 b -  0000 - Z  0000 - Z  0000 - Z  0000 - Z  0000 - Z  0000 - Z  0000 - Z  0000 - Z  0000 - Z  0000 - Z  0000 - Z  0000 - Z  0000 - Z  0000 - Z  0000 - Z  0000 - Z  0000 - Z  0000 - Z  0000 - Z") ∷ []))))) ∷
-    asks event 0 1 0 5 ∷ asks event 0 2 100 5 ∷ asks event 0 3 110 0 ∷ asks event 1 3 0 0 ∷ asks event 1 1 0 5 ∷ []
-
--- ---- rows of one line: what spells an item and what does not
-unfoldable pub right : List String
-right =
-    "" ∷ "   " ∷ "### any" ∷ "162  W 3.0    D 1.0" ∷ "162  X10.5   " ∷ "162  W 1.0    D 0.5    L 0.0    A 0.0    P 1.0    X 0.5    " ∷
-    "250       1.0   1  20    1 9999" ∷ "250      01.0 003 003 0090 0090  " ∷ "250      99.9 020 020 9999 9999" ∷ "142 0" ∷ "142 007  " ∷ "142 20" ∷ "152 W" ∷ "152 B   " ∷
-    "012 Cup" ∷ "022" ∷ "022    " ∷ "022 x" ∷ "032 x" ∷ "042 x" ∷ "052 x" ∷ "062 x" ∷ "072 x" ∷ "092 x" ∷ "102 x" ∷ "112 x" ∷ "122 x" ∷ "132 x" ∷ "192 x" ∷ "202 x" ∷ "212 x" ∷ "222 x" ∷ []
-
-unfoldable pub wrong : List String
-wrong =
-    "162" ∷ "162  W 1.0    W 1.0" ∷ "162           D 0.5" ∷ "162  W 1.0             L 0.0" ∷ "162  W 1.0 x" ∷ "162  w 1.0" ∷ "162 W 1.0" ∷ "162 xW 1.0" ∷ "162x W 1.0" ∷ "162  W  .5" ∷ "162  W 1,0" ∷ "162  Y 1.0" ∷
-    "162  W 1.0    D 0.5    L 0.0    A 0.0    P 1.0    X 0.5    W 1.0" ∷ "162  W 1.0    D 0.5    L 0.0    A 0.0    P 1.0    X 0.5x" ∷
-    "250      00.0 001 003 0001 0090" ∷ "250      01.0 004 003 0001 0090" ∷ "250      01.0 001 021 0001 0090" ∷ "250      01.0 021 021 0001 0090" ∷ "250      01.0 000 003 0001 0090" ∷
-    "250      01.0 001 003 0091 0090" ∷ "250      01.0 001 003 0000 0090" ∷ "250 0001 01.0 001 003 0001 0090" ∷ "250x     01.0 001 003 0001 0090" ∷ "250      01.0 001 003 0001 0090 x" ∷ "250      01.0 001 003 0001     " ∷
-    "250      01.0x001 003 0001 0090" ∷ "250      01.0 001x003 0001 0090" ∷ "250      01.0 001 003x0001 0090" ∷ "250      01.0 001 003 0001x0090" ∷ "250     x01.0 001 003 0001 0090" ∷ "250      01.0 1   003 0001 0090" ∷
-    "142 " ∷ "142 21" ∷ "142  3" ∷ "142 0003" ∷ "142 3 4" ∷ "142x3" ∷ "142 x" ∷ "152 w" ∷ "152  W" ∷ "152 WB" ∷ "152xW" ∷ "152" ∷ "012" ∷ "012   " ∷ "012xCup" ∷ "022x" ∷ "013 Team" ∷ "01" ∷ "082 x" ∷ "172 x" ∷ "352 x" ∷ "362 x" ∷ "142" ∷ []
-
-unfoldable pub playerRows : List Row
-playerRows =
-    spells (rowWith []) ∷ spells (rowWith ((92, "9999 b -") ∷ [])) ∷ spells (rowWith ((282, "0000 - z") ∷ [])) ∷
-    spells (keptRow 10 "m") ∷ spells (keptRow 10 "w") ∷ spells-nothing (keptRow 10 "M") ∷ spells-nothing (keptRow 10 "f") ∷
-    spells (keptRow 11 "GM") ∷ spells (keptRow 11 "IM") ∷ spells (keptRow 11 "WGM") ∷ spells (keptRow 11 "FM") ∷ spells (keptRow 11 "WIM") ∷ spells (keptRow 11 "CM") ∷ spells (keptRow 11 "WFM") ∷ spells (keptRow 11 "WCM") ∷
-    spells-nothing (keptRow 12 "GM") ∷ spells-nothing (keptRow 11 "gm") ∷ spells-nothing (keptRow 11 "KM") ∷
-    spells (keptRow 15 "012345678901234567890123456789012") ∷ spells-nothing (keptRow 15 "0123456789012345678901234567890123") ∷ spells-nothing (keptRow 14 "x") ∷
-    spells (keptRow 49 "   0") ∷ spells (keptRow 49 "0000") ∷ spells (keptRow 52 "7") ∷ spells-nothing (keptRow 49 "24 1") ∷ spells-nothing (keptRow 49 "240 ") ∷ spells-nothing (keptRow 53 "x") ∷
-    spells (keptRow 54 "xyz") ∷ spells-nothing (keptRow 57 "x") ∷ spells (keptRow 58 "x y z x y z") ∷ spells-nothing (keptRow 69 "x") ∷
-    spells (keptRow 70 "0000/99/00") ∷ spells-nothing (keptRow 70 "1990-01-01") ∷ spells-nothing (keptRow 70 "1990/1/01 ") ∷ spells-nothing (keptRow 70 "1990") ∷ spells-nothing (keptRow 80 "x") ∷
-    spells-nothing (put 1 ((1, "001") ∷ (5, "   0") ∷ (81, " 0.0") ∷ (86, "   1") ∷ [])) ∷ spells (put 1 ((1, "001") ∷ (5, "9999") ∷ (81, "99.9") ∷ (86, "9999") ∷ [])) ∷
-    spells-nothing (put 1 ((1, "001") ∷ (5, "   1") ∷ (81, " 0.0") ∷ (86, "   0") ∷ [])) ∷ spells-nothing (put 1 ((1, "001") ∷ (5, "   1") ∷ (81, " 0.0") ∷ [])) ∷
-    spells-nothing (put 1 ((1, "001") ∷ (5, "   1") ∷ (86, "   1") ∷ [])) ∷ spells-nothing (put 1 ((1, "001") ∷ (81, " 0.0") ∷ (86, "   1") ∷ [])) ∷
-    spells-nothing (put 1 ((1, "001x") ∷ (5, "   1") ∷ (81, " 0.0") ∷ (86, "   1") ∷ [])) ∷ spells-nothing (put 1 ((1, "001") ∷ (5, "   1") ∷ (9, "x") ∷ (81, " 0.0") ∷ (86, "   1") ∷ [])) ∷
-    spells-nothing (put 1 ((1, "001") ∷ (5, "   1") ∷ (81, " 0.0") ∷ (85, "x") ∷ (86, "   1") ∷ [])) ∷
-    spells-nothing (rowWith ((90, "x") ∷ [])) ∷ spells-nothing (rowWith ((91, "x") ∷ [])) ∷ spells-nothing (rowWith ((96, "x") ∷ [])) ∷ spells-nothing (rowWith ((98, "x") ∷ [])) ∷ spells-nothing (rowWith ((100, "x") ∷ [])) ∷
-    spells-nothing (rowWith ((281, "x") ∷ [])) ∷ spells-nothing (rowWith ((288, "x") ∷ [])) ∷ spells-nothing (rowWith ((290, "x") ∷ [])) ∷ spells-nothing (rowWith ((299, "x") ∷ [])) ∷
-    spells-nothing (rowWith ((92, " x  ") ∷ [])) ∷ spells-nothing (rowWith ((97, "W") ∷ [])) ∷ spells-nothing (rowWith ((97, "B") ∷ [])) ∷ spells-nothing (rowWith ((99, "?") ∷ [])) ∷ spells-nothing (rowWith ((99, "A") ∷ [])) ∷ spells-nothing (rowWith ((289, "2") ∷ [])) ∷ []
-
-unfoldable pub guardRows : List Row
-guardRows =
-    lineRows ++ (onceRows ++ (fullRows ++ (entryRows ++ (worthRows ++ (tableRows ++ (writerRows ++ (map (λ s. spells (ascii s)) right ++ (map (λ s. spells-nothing (ascii s)) wrong ++ playerRows))))))))
-
--- ---- computed
-computed : all test guardRows ≡ true
-unfolding guardRows lineRows onceRows fullRows fullText note entryRows worthRows tableRows writerRows right wrong playerRows event scoring two alone crlf-line rowWith keptRow person put line cup roe poe sampleT test cells flat top scoringOf shares covers kindOf normal usedRounds roundsOf tournamentOf isBye isGame fits keeps worth earned isPast contentOf answerOf isAgain isTooMany linesOf isFileFault labels writtenLines written earnedBefore accelerationFor itemOf outcomeOf
-computed = refl
-
-pub guarded : AllOf RowHolds guardRows
-guarded = all-tested guardRows computed
+pub guarded : AllOf (λ (c : Computed). RowHolds (c .0)) guardRows
+guarded = all-computed guardRows

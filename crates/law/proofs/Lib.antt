@@ -11,6 +11,10 @@ pub mod Accepts
 pub mod Judges
 pub mod ReadsOnce
 pub mod TwoReadings
+pub mod Readings
+pub mod Replies
+pub mod RepliesRight
+pub mod Rows
 pub mod Samples
 pub mod Marked
 pub mod Guards

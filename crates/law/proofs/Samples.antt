@@ -1,206 +1,40 @@
--- What a sample says, and how the checker's own computation proves it: for every content before that is long enough, every answer and content that `Reads`
--- permits is the one expected, and one is permitted. Assumes nothing.
+-- What a sample computes holds of the statement: for every content before that is long enough, every answer and content that is permitted is the one expected, and one is
+-- permitted. Assumes nothing.
 use mathlib.Core.Path.{_≡_, refl, sym, ap, _∙_, subst}
 use mathlib.Core.Bool.{Bool, true, false, _&&_, not}
 use mathlib.Core.Option.{Option, none, some}
 use mathlib.Core.List.{List, [], _∷_, map}
 use Prim.Native.Nat.{ℕ, _<_}
-use Prim.Native.Char.{code}
 use lib.Dec.{eqb, ltb}
 use lib.ListN.{length, getD, getD-replicate}
-use borrow.Author.Tests.{eqb-true, ltb-true}
+use borrow.Author.Tests.{eqb-true, ltb-true, not-true}
 use Rattle.kit.specs.Lists.{all, same}
 use Rattle.kit.specs.First.{AllOf}
-use Rattle.kit.specs.Decides.{isSome}
+use Rattle.kit.specs.Table.{Holds}
 use Rattle.kit.proofs.Bools.{clash, and, same-is}
 use Rattle.kit.proofs.Decided.{spelled, unspelled}
 use Rattle.types.specs.declared.Acceleration.{Acceleration}
 use Rattle.types.specs.declared.Answer.{Answer}
-use Rattle.law.specs.Sizes.{mostPlayers, mostAccelerations, mostText}
-use Rattle.law.specs.Lines.{cr}
+use Rattle.types.specs.declared.Written.{Written}
+use Rattle.types.specs.declared.Score.{Score}
 use Rattle.law.specs.Scoring.{scoringOf}
 use Rattle.law.specs.Items.{Item, SpellsItem, scoring}
-use Rattle.law.specs.Tournament.{Entry, Tournament}
-use Rattle.law.specs.Entries.{earned}
-use Rattle.law.specs.Lawful.{noAcceleration}
-use Rattle.law.specs.Spelling.{SpellsFile}
-use Rattle.law.specs.Tables.{Lent, enoughLent, keptCells, entryCells, lineCells, contentOf, linesContent, zeros, HoldLent, answerOf}
+use Rattle.law.specs.Tournament.{Tournament}
+use Rattle.law.specs.Entries.{fits, earned}
+use Rattle.law.specs.Tables.{Tables, Lent, enough, enoughLent, zeros, HoldLent, answerOf}
 use Rattle.law.specs.Refusals.{Refusal, Outcome, refused, accepted, Judged}
-use Rattle.law.specs.Writing.{written, earnedBefore, accelerationFor}
-use Rattle.law.specs.Calls.{refusedAnswer, Cleared, Leaves, Reads}
+use Rattle.law.specs.Calls.{refusedAnswer, Cleared, Leaves}
 use Rattle.law.proofs.RecordsRead.{itemOf, item}
-use Rattle.law.proofs.Accepts.{one-tournament}
-use Rattle.law.proofs.Judges.{outcomeOf, judged, is-judged}
+use Rattle.law.proofs.Judges.{outcomeOf, is-judged}
 use Rattle.law.proofs.ReadsOnce.{reads-some}
+use Rattle.law.proofs.Replies.{writeOf, askOf, bytesOf, spelledBy}
+use Rattle.law.proofs.RepliesRight.{IsReadingOf, writes-as, asks-as, writes-some, asks-some, short-unread, left-is}
 
--- ---- rows
-pub data Table : Type 0 where
-  starts points ranks kept opponents colours results text lines : Table
-  -- parts of the acceleration records
-  added first-rounds last-rounds first-starts last-starts : Table
-  -- parts of the answer, whatever the index
-  text-length initial-colour value : Table
+use Rattle.law.proofs.Rows.{cellIn, cellsIn, cellOfTournament, LentAs, as-left, cut-short, Counts, Refuses, Always, HoldsCells, Lends, Wrote, Replied, WritesSo, AsksSo, Fit, asEntry, isRefused, isAccepted, isScored, areStored, isWhole, readingIn, isWrote, isWritten, isReplied, isAsked, ofLent, OfLent, Output, Question, doFit, doNotFit, Computed}
 
-abbrev pub cellIn : Answer → Lent → Table → ℕ → ℕ
-cellIn a x starts i = getD (x .tables .starts) i 0
-cellIn a x points i = getD (x .tables .points) i 0
-cellIn a x ranks i = getD (x .tables .ranks) i 0
-cellIn a x kept i = getD (x .tables .kept) i 0
-cellIn a x opponents i = getD (x .tables .opponents) i 0
-cellIn a x colours i = getD (x .tables .colours) i 0
-cellIn a x results i = getD (x .tables .results) i 0
-cellIn a x text i = getD (x .tables .text) i 0
-cellIn a x lines i = getD (x .lines) i 0
-cellIn a x added i = getD (x .tables .accelerations) i noAcceleration .points
-cellIn a x first-rounds i = getD (x .tables .accelerations) i noAcceleration .«first_round»
-cellIn a x last-rounds i = getD (x .tables .accelerations) i noAcceleration .«last_round»
-cellIn a x first-starts i = getD (x .tables .accelerations) i noAcceleration .«first_start»
-cellIn a x last-starts i = getD (x .tables .accelerations) i noAcceleration .«last_start»
-cellIn a x text-length i = a .text
-cellIn a x initial-colour i = a .colour
-cellIn a x value i = getD (a .values) i 0
-
--- how many listed cells a table has
-abbrev pub cellsIn : Table → ℕ
-cellsIn starts = mostPlayers
-cellsIn points = mostPlayers
-cellsIn ranks = mostPlayers
-cellsIn kept = keptCells
-cellsIn opponents = entryCells
-cellsIn colours = entryCells
-cellsIn results = entryCells
-cellsIn text = mostText
-cellsIn lines = lineCells
-cellsIn added = mostAccelerations
-cellsIn first-rounds = mostAccelerations
-cellsIn last-rounds = mostAccelerations
-cellsIn first-starts = mostAccelerations
-cellsIn last-starts = mostAccelerations
-cellsIn text-length = 1
-cellsIn initial-colour = 1
-cellsIn value = 6
-
--- what the statement says that it holds
-abbrev cellOfTournament : Tournament → List ℕ → List ℕ → Table → ℕ → ℕ
-cellOfTournament t ps rs starts i = contentOf t .starts i
-cellOfTournament t ps rs points i = contentOf t .points i
-cellOfTournament t ps rs ranks i = contentOf t .ranks i
-cellOfTournament t ps rs kept i = contentOf t .kept i
-cellOfTournament t ps rs opponents i = contentOf t .opponents i
-cellOfTournament t ps rs colours i = contentOf t .colours i
-cellOfTournament t ps rs results i = contentOf t .results i
-cellOfTournament t ps rs text i = contentOf t .text i
-cellOfTournament t ps rs lines i = linesContent ps rs i
-cellOfTournament t ps rs added i = contentOf t .accelerations i .points
-cellOfTournament t ps rs first-rounds i = contentOf t .accelerations i .«first_round»
-cellOfTournament t ps rs last-rounds i = contentOf t .accelerations i .«last_round»
-cellOfTournament t ps rs first-starts i = contentOf t .accelerations i .«first_start»
-cellOfTournament t ps rs last-starts i = contentOf t .accelerations i .«last_start»
-cellOfTournament t ps rs text-length i = answerOf t .text
-cellOfTournament t ps rs initial-colour i = answerOf t .colour
-cellOfTournament t ps rs value i = getD (answerOf t .values) i 0
-
-pub data Row : Type 0 where
-  -- the file is refused with number, line, round
-  refuses : List ℕ → ℕ → ℕ → ℕ → Row
-  -- the file is accepted, with so many players, rounds and acceleration records
-  accepts : List ℕ → ℕ → ℕ → ℕ → Row
-  -- results under the scoring that a line spells are worth so many tenths
-  scores : List ℕ → List ℕ → ℕ → Row
-  -- the file is accepted, and these cells then hold these numbers
-  stores : List ℕ → List (Table × ℕ × ℕ) → Row
-  -- the file is accepted, and its tournament is written so
-  rewrites : List ℕ → List ℕ → Row
-  -- the file is accepted, and the question at a place and round gives sum and acceleration
-  asks : List ℕ → ℕ → ℕ → ℕ → ℕ → Row
-  -- the line spells something, or nothing
-  spells : List ℕ → Row
-  spells-nothing : List ℕ → Row
-
--- what a permitted answer to an accepted file has
-pub record Counts (players rounds accelerations : ℕ) (a : Answer) : Type 0 where
-  pub number : a .number ≡ 0
-  pub line : a .line .0 ≡ 0
-  pub round : a .round ≡ 0
-  pub players-are : a .players ≡ players
-  pub rounds-are : a .rounds ≡ rounds
-  pub accelerations-are : a .accelerations ≡ accelerations
-
--- and to a refused file: number, line and round, and zero in every other part and in every listed cell
-pub record Refuses (number line round : ℕ) (a : Answer) (after : Lent) : Type 0 where
-  pub number-is : a .number ≡ number
-  pub line-is : a .line .0 ≡ line
-  pub round-is : a .round ≡ round
-  pub players-are : a .players ≡ 0
-  pub rounds-are : a .rounds ≡ 0
-  pub accelerations-are : a .accelerations ≡ 0
-  pub cleared : (k : Table) (i : ℕ) → i < cellsIn k → cellIn a after k i ≡ 0
-
--- for every content before that is long enough: what every permitted answer and content is, and that one is permitted
-abbrev pub Always : List ℕ → (Answer → Lent → Type 0) → Type 0
-Always file Says = (before : Lent) → enoughLent before ≡ true → ((a : Answer) (after : Lent) → Reads file before a after → Says a after) × ((a : Answer) × (after : Lent) × Reads file before a after)
-
--- each cell as listed
-abbrev pub HoldsCells : List (Table × ℕ × ℕ) → Answer → Lent → Type 0
-HoldsCells cells a after = AllOf (λ (c : Table × ℕ × ℕ). cellIn a after (c .0) (c .1) ≡ c .2) cells
-
--- of every tournament that the file spells
-abbrev pub OfSpelled : List ℕ → (Tournament → Type 0) → Type 0
-OfSpelled file Says = ((t : Tournament) → SpellsFile file t → Says t) × ((t : Tournament) × SpellsFile file t)
-
-abbrev pub asEntry : ℕ → Entry
-asEntry result = record { id = 0; colour = code "-"; result = result }
-
-unfoldable pub RowHolds : Row → Type 0
-RowHolds (refuses file k l r) = Always file (Refuses k l r)
-RowHolds (accepts file p r n) = Always file (λ a after. Counts p r n a)
-RowHolds (scores line played n) = (given : List (ℕ × ℕ)) × SpellsItem line (scoring given) × (earned (scoringOf given) (map asEntry played) ≡ n)
-RowHolds (stores file cells) = Always file (HoldsCells cells)
-RowHolds (rewrites file bytes) = OfSpelled file (λ t. written cr t ≡ bytes)
-RowHolds (asks file place round sum acceleration) = OfSpelled file (λ t. (earnedBefore t place round ≡ sum) × (accelerationFor t place round ≡ acceleration))
-RowHolds (spells line) = (i : Item) × SpellsItem line i
-RowHolds (spells-nothing line) = (i : Item) → SpellsItem line i → ⊥
-
--- ---- the computation
-abbrev isRefused : ℕ → ℕ → ℕ → Outcome → Bool
-isRefused k l r (refused x) = eqb (x .number) k && eqb (x .line) l && eqb (x .round) r
-isRefused k l r (accepted t ps rs) = false
-
-abbrev isAccepted : ℕ → ℕ → ℕ → Outcome → Bool
-isAccepted p r n (refused x) = false
-isAccepted p r n (accepted t ps rs) = eqb (length (t .players)) p && eqb (t .rounds) r && eqb (length (t .accelerations)) n
-
-abbrev isScored : List ℕ → ℕ → Option Item → Bool
-isScored played n none = false
-isScored played n (some Item.passed) = false
-isScored played n (some (Item.text a)) = false
-isScored played n (some (Item.rounds m)) = false
-isScored played n (some (Item.colour c)) = false
-isScored played n (some (scoring given)) = eqb (earned (scoringOf given) (map asEntry played)) n
-isScored played n (some (Item.acceleration a)) = false
-isScored played n (some (Item.player p)) = false
-
-abbrev areStored : List (Table × ℕ × ℕ) → Outcome → Bool
-areStored cells (refused x) = false
-areStored cells (accepted t ps rs) = all (λ (c : Table × ℕ × ℕ). ltb (c .1) (cellsIn (c .0)) && eqb (cellOfTournament t ps rs (c .0) (c .1)) (c .2)) cells
-
-abbrev isWritten : List ℕ → Outcome → Bool
-isWritten bytes (refused x) = false
-isWritten bytes (accepted t ps rs) = same (written cr t) bytes
-
-abbrev isAsked : ℕ → ℕ → ℕ → ℕ → Outcome → Bool
-isAsked place round sum acceleration (refused x) = false
-isAsked place round sum acceleration (accepted t ps rs) = eqb (earnedBefore t place round) sum && eqb (accelerationFor t place round) acceleration
-
-unfoldable pub test : Row → Bool
-test (refuses file k l r) = isRefused k l r (outcomeOf true file)
-test (accepts file p r n) = isAccepted p r n (outcomeOf true file)
-test (scores line played n) = isScored played n (itemOf line)
-test (stores file cells) = areStored cells (outcomeOf true file)
-test (rewrites file bytes) = isWritten bytes (outcomeOf true file)
-test (asks file place round sum acceleration) = isAsked place round sum acceleration (outcomeOf true file)
-test (spells line) = isSome (itemOf line)
-test (spells-nothing line) = not (isSome (itemOf line))
+-- the rows themselves, for those who state some
+pub use Rattle.law.proofs.Rows.{Table, starts, points, ranks, kept, opponents, colours, results, text, lines, added, first-rounds, last-rounds, first-starts, last-starts, text-length, initial-colour, value, Row, refuses, accepts, scores, stores, writes, asks, fitting, spells, spells-nothing}
+unfoldable pub use Rattle.law.proofs.Rows.{RowHolds, test}
 
 -- ---- what is computed holds of the relation
 pub always : (file : List ℕ) (Says : Answer → Lent → Type 0) → ((before : Lent) → enoughLent before ≡ true → (a : Answer) (after : Lent) → Leaves (outcomeOf true file) before a after → Says a after) → Always file Says
@@ -298,11 +132,80 @@ stored-says : (cells : List (Table × ℕ × ℕ)) (o : Outcome) → areStored c
 stored-says cells (refused x) e before long a after h = clash e
 stored-says cells (accepted t ps rs) e before long a after h = holds-cells t ps rs before after a h cells e
 
--- ---- the tournament that is spelled
-spelled-as : (file : List ℕ) (Says : Tournament → Type 0) (t : Tournament) (ps rs : List ℕ) → outcomeOf true file ≡ accepted t ps rs → Says t → OfSpelled file Says
-spelled-as file Says t ps rs e h =
-    let j = subst (Judged true file) e (judged true file) in
-    (λ u s. subst Says (one-tournament file t u (j .spells) s) h, (t, j .spells))
+-- ---- the writer and the question
+wrote : (number : ℕ) (bytes out : List ℕ) (w u : Written) (left x : List ℕ) → w ≡ u → Holds 0 (length left) (λ i. getD left i 0) out x → isWrote number bytes u left ≡ true → Wrote number bytes out w x
+wrote number bytes out w u left x e h t =
+    let a = and (eqb (u .number) number && eqb (u .line .0) 0 && eqb (u .round) 0 && eqb (u .length) (length bytes)) (same left bytes) t in
+    let b = and (eqb (u .number) number && eqb (u .line .0) 0 && eqb (u .round) 0) (eqb (u .length) (length bytes)) (a .0) in
+    let c = and (eqb (u .number) number && eqb (u .line .0) 0) (eqb (u .round) 0) (b .0) in
+    let d = and (eqb (u .number) number) (eqb (u .line .0) 0) (c .0) in
+    record {
+      number-is = ap (λ (w : Written). w .number) e ∙ eqb-true (u .number) number (d .0);
+      line = ap (λ (w : Written). w .line .0) e ∙ eqb-true (u .line .0) 0 (d .1);
+      round = ap (λ (w : Written). w .round) e ∙ eqb-true (u .round) 0 (c .1);
+      length-is = ap (λ (w : Written). w .length) e ∙ eqb-true (u .length) (length bytes) (b .1);
+      leaves = subst (λ (l : List ℕ). Holds 0 (length l) (λ i. getD l i 0) out x) (same-is left bytes (a .1)) h;
+    }
+
+replied : (number sum acceleration : ℕ) (s u : Score) → s ≡ u → isReplied number sum acceleration u ≡ true → Replied number sum acceleration s
+replied number sum acceleration s u e t =
+    let a = and (eqb (u .number) number && eqb (u .line .0) 0 && eqb (u .round) 0 && eqb (u .points) sum) (eqb (u .acceleration) acceleration) t in
+    let b = and (eqb (u .number) number && eqb (u .line .0) 0 && eqb (u .round) 0) (eqb (u .points) sum) (a .0) in
+    let c = and (eqb (u .number) number && eqb (u .line .0) 0) (eqb (u .round) 0) (b .0) in
+    let d = and (eqb (u .number) number) (eqb (u .line .0) 0) (c .0) in
+    record {
+      number-is = ap (λ (w : Score). w .number) e ∙ eqb-true (u .number) number (d .0);
+      line = ap (λ (w : Score). w .line .0) e ∙ eqb-true (u .line .0) 0 (d .1);
+      round = ap (λ (w : Score). w .round) e ∙ eqb-true (u .round) 0 (c .1);
+      points-are = ap (λ (w : Score). w .points) e ∙ eqb-true (u .points) sum (b .1);
+      acceleration-is = ap (λ (w : Score). w .acceleration) e ∙ eqb-true (u .acceleration) acceleration (a .1);
+    }
+
+-- what is lent is a reading of what the row takes it for
+lent-is : (lends : LentAs) (o : Outcome) (answer : Answer) (after : Lent) → IsReadingOf answer (after .tables) (spelledBy o) × (enough (after .tables) ≡ true) → (tables : Tables) → Lends lends after tables
+    → IsReadingOf answer tables (readingIn lends o) × (enough tables ≡ isWhole lends)
+lent-is as-left o answer after h tables e = subst (λ (t : Tables). IsReadingOf answer t (spelledBy o) × (enough t ≡ true)) e h
+lent-is cut-short o answer after h tables e = (short-unread answer tables e, e)
+
+module _ (answer : Answer) (tables : Tables) (long : Bool) (o : Option Tournament) (r : IsReadingOf answer tables o) (enough-is : enough tables ≡ long) where
+  write-so : (q : Output) → isWritten long o q ≡ true → WritesSo answer tables q
+  write-so q t out n = (
+    λ w x k.
+        let s = subst (λ (b : Bool). (w ≡ writeOf b o (length out)) × Holds 0 (length (bytesOf b o (length out))) (λ i. getD (bytesOf b o (length out)) i 0) out x) enough-is (writes-as answer tables o r out w x k) in
+        let u = subst (λ (m : ℕ). isWrote (q .1) (q .2) (writeOf long o m) (bytesOf long o m) ≡ true) (sym n) t in
+        wrote (q .1) (q .2) out w (writeOf long o (length out)) (bytesOf long o (length out)) x (s .0) (s .1) u,
+    writes-some answer tables o r out,
+  )
+
+  ask-so : (q : Question) → isAsked long o q ≡ true → AsksSo answer tables q
+  ask-so q t = (
+    λ s k.
+        let u = subst (λ (b : Bool). s ≡ askOf b o (q .0) (q .1)) enough-is (asks-as answer tables o r (record { 0 = q .0 }) (q .1) s k) in
+        replied (q .2) (q .3) (q .4) s (askOf long o (q .0) (q .1)) u t,
+    asks-some answer tables o r (record { 0 = q .0 }) (q .1),
+  )
+
+of-lent : {Q : Type 0} (t : Bool → Option Tournament → Q → Bool) (lends : LentAs) (qs : List Q) (o : Outcome) → ofLent t lends qs o ≡ true → all (t (isWhole lends) (readingIn lends o)) qs ≡ true
+of-lent t lends qs (refused x) e = e
+of-lent t lends qs (accepted u ps rs) e = e
+
+-- of what the reader leaves, whatever it is
+left : (file : List ℕ) (Says : Answer → Lent → Type 0)
+    → ((a : Answer) (after : Lent) → IsReadingOf a (after .tables) (spelledBy (outcomeOf true file)) × (enough (after .tables) ≡ true) → Says a after) → Always file Says
+left file Says h = λ before long. (λ a after r. h a after (left-is file before long a after r), reads-some file before)
+
+all-so : {Q : Type 0} (t : Q → Bool) (P : Q → Type 0) → ((q : Q) → t q ≡ true → P q) → (qs : List Q) → all t qs ≡ true → AllOf P qs
+all-so t P h [] e = tt
+all-so t P h (q ∷ qs) e = let k = and (t q) (all t qs) e in (h q (k .0), all-so t P h qs (k .1))
+
+-- ---- results that fit
+do-fit : (own other : ℕ) → doFit own other ≡ true → Fit true own other
+do-fit own other e = and (fits own other) (fits other own) e
+
+do-not-fit : (own other : ℕ) → doNotFit own other ≡ true → Fit false own other
+do-not-fit own other e =
+    let j = and (not (fits own other)) (not (fits other own)) e in
+    (not-true (fits own other) (j .0), not-true (fits other own) (j .1))
 
 tested : (r : Row) → test r ≡ true → RowHolds r
 unfolding test RowHolds
@@ -320,21 +223,25 @@ tested (scores line played n) e = go (itemOf line) refl e
     go (some (Item.acceleration a)) p e = clash e
     go (some (Item.player q)) p e = clash e
 tested (stores file cells) e = always file (HoldsCells cells) (stored-says cells (outcomeOf true file) e)
-tested (rewrites file bytes) e = go (outcomeOf true file) refl e
-  where
-    go : (o : Outcome) → outcomeOf true file ≡ o → isWritten bytes o ≡ true → OfSpelled file (λ t. written cr t ≡ bytes)
-    go (refused x) p e = clash e
-    go (accepted t ps rs) p e = spelled-as file (λ t. written cr t ≡ bytes) t ps rs p (same-is (written cr t) bytes e)
-tested (asks file place round sum acceleration) e = go (outcomeOf true file) refl e
-  where
-    go : (o : Outcome) → outcomeOf true file ≡ o → isAsked place round sum acceleration o ≡ true → OfSpelled file (λ t. (earnedBefore t place round ≡ sum) × (accelerationFor t place round ≡ acceleration))
-    go (refused x) p e = clash e
-    go (accepted t ps rs) p e =
-        let k = and (eqb (earnedBefore t place round) sum) (eqb (accelerationFor t place round) acceleration) e in
-        spelled-as file (λ t. (earnedBefore t place round ≡ sum) × (accelerationFor t place round ≡ acceleration)) t ps rs p (eqb-true (earnedBefore t place round) sum (k .0), eqb-true (accelerationFor t place round) acceleration (k .1))
+tested (writes lends file qs) e = left file (OfLent WritesSo lends qs)
+    (λ a after h tables l.
+    let k = lent-is lends (outcomeOf true file) a after h tables l in
+    let o = readingIn lends (outcomeOf true file) in
+    all-so (isWritten (isWhole lends) o) (WritesSo a tables) (write-so a tables (isWhole lends) o (k .0) (k .1)) qs (of-lent isWritten lends qs (outcomeOf true file) e))
+tested (asks lends file qs) e = left file (OfLent AsksSo lends qs)
+    (λ a after h tables l.
+    let k = lent-is lends (outcomeOf true file) a after h tables l in
+    let o = readingIn lends (outcomeOf true file) in
+    all-so (isAsked (isWhole lends) o) (AsksSo a tables) (ask-so a tables (isWhole lends) o (k .0) (k .1)) qs (of-lent isAsked lends qs (outcomeOf true file) e))
+tested (fitting own fit misfit) e = let k = and (all (doFit own) fit) (all (doNotFit own) misfit) e in (all-so (doFit own) (Fit true own) (do-fit own) fit (k .0), all-so (doNotFit own) (Fit false own) (do-not-fit own) misfit (k .1))
 tested (spells line) e = spelled item .sound line e
 tested (spells-nothing line) e = unspelled item .sound line e
 
 pub all-tested : (l : List Row) → all test l ≡ true → AllOf RowHolds l
 all-tested [] e = tt
 all-tested (r ∷ l) e = let k = and (test r) (all test l) e in (tested r (k .0), all-tested l (k .1))
+
+-- rows that stand with their computation
+pub all-computed : (l : List Computed) → AllOf (λ (c : Computed). RowHolds (c .0)) l
+all-computed [] = tt
+all-computed (c ∷ l) = (tested (c .0) (c .1), all-computed l)
