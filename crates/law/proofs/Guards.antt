@@ -22,7 +22,7 @@ use Rattle.law.specs.Writing.{writtenLines, written, earnedBefore, accel
 use Rattle.law.specs.Calls.{refusedAnswer, writtenAnswer, scoreAnswer}
 use Rattle.law.proofs.RecordsRead.{itemOf}
 use Rattle.law.proofs.Judges.{outcomeOf}
-use Rattle.law.proofs.Rows.{starts, points, ranks, kept, opponents, colours, results, text, lines, added, first-rounds, last-rounds, first-starts, last-starts, text-length, initial-colour, value, as-left, cut-short, Row, refuses, accepts, scores, stores, writes, asks, fitting, spells, spells-nothing, RowHolds, test, Computed}
+use Rattle.law.proofs.Rows.{starts, points, ranks, kept, opponents, colours, results, text, lines, added, first-rounds, last-rounds, first-starts, last-starts, text-length, initial-colour, value, as-left, cut-short, Row, refuses, accepts, answers, scores, stores, writes, asks, fitting, spells, spells-nothing, RowHolds, test, Computed}
 use Rattle.law.proofs.Samples.{all-computed}
 use Rattle.law.proofs.Marked.{line, cup, roe, poe, sampleT}
 
@@ -215,7 +215,9 @@ guardRows =
     (lines, 0, 4) ∷ (lines, 1, 7) ∷ (lines, 2, 0) ∷ (lines, 199, 0) ∷ (lines, 200, 3) ∷ (lines, 201, 6) ∷ (lines, 202, 0) ∷ (lines, 231, 0) ∷
     (initial-colour, 0, code "B") ∷ (value, 0, 100) ∷ (value, 1, 15) ∷ (value, 2, 0) ∷ (value, 3, 0) ∷ (value, 4, 10) ∷ (value, 5, 5) ∷ []), refl) ∷
     (stores (cup ++ (line scoring ++ alone)) ((initial-colour, 0, 0) ∷ (value, 0, 30) ∷ (value, 1, 10) ∷ (value, 2, 2) ∷ (value, 3, 1) ∷ (value, 4, 20) ∷ (value, 5, 7) ∷ []), refl) ∷
-    (accepts event 2 3 2, refl) ∷
+    (accepts event 2 3 2, refl) ∷ (answers event (0 ∷ 0 ∷ 0 ∷ 2 ∷ 3 ∷ 2 ∷ 14 ∷ code "B" ∷ 100 ∷ 15 ∷ 0 ∷ 0 ∷ 10 ∷ 5 ∷ []), refl) ∷
+    (answers (after []) (0 ∷ 0 ∷ 0 ∷ 1 ∷ 0 ∷ 0 ∷ 8 ∷ 0 ∷ 10 ∷ 5 ∷ 0 ∷ 0 ∷ 10 ∷ 5 ∷ []), refl) ∷
+    (answers (two " 1.0" "   2 w 1" " 0.0" "   1 w 0") (13 ∷ 2 ∷ 1 ∷ 0 ∷ 0 ∷ 0 ∷ 0 ∷ 0 ∷ 0 ∷ 0 ∷ 0 ∷ 0 ∷ 0 ∷ 0 ∷ []), refl) ∷
     (stores highest ((starts, 0, 9999) ∷ (points, 0, 999) ∷ (ranks, 0, 9999) ∷ (added, 0, 999) ∷ (first-rounds, 0, 20) ∷ (last-rounds, 0, 20) ∷ (first-starts, 0, 9999) ∷ (added, 1, 105) ∷ (last-rounds, 1, 10) ∷ (first-starts, 1, 1005) ∷ (last-starts, 1, 1050) ∷
         (value, 0, 999) ∷ (value, 1, 105) ∷ (value, 2, 200) ∷ (value, 3, 301) ∷ (value, 4, 402) ∷ (value, 5, 503) ∷ []), refl) ∷
     (stores (cup ++ (line "162  X 0.7" ++ alone)) ((value, 0, 10) ∷ (value, 1, 5) ∷ (value, 2, 0) ∷ (value, 3, 0) ∷ (value, 4, 10) ∷ (value, 5, 7) ∷ []), refl) ∷

@@ -5,7 +5,7 @@ use mathlib.Core.List.{List, [], _∷_, _++_}
 use Prim.Native.Nat.{ℕ}
 use Prim.Native.String.{String}
 use Rattle.kit.specs.Ascii.{ascii}
-use Rattle.kit.specs.Lists.{all, flat, top}
+use Rattle.kit.specs.Lists.{flat, top}
 use Rattle.kit.specs.First.{AllOf}
 use Rattle.law.specs.Columns.{cells}
 use Rattle.law.specs.Scoring.{scoringOf}
@@ -17,7 +17,7 @@ use Rattle.law.specs.Spelling.{isPast}
 use Rattle.law.specs.Refusals.{isAgain, isTooMany, linesOf, isFileFault, labels}
 use Rattle.law.proofs.RecordsRead.{itemOf}
 use Rattle.law.proofs.Judges.{outcomeOf}
-use Rattle.law.proofs.Samples.{Row, refuses, accepts, scores, RowHolds, test, all-tested}
+use Rattle.law.proofs.Samples.{Row, refuses, accepts, scores, RowHolds, test, all-hold}
 
 -- ---- sample T
 unfoldable pub line : String → List ℕ
@@ -56,9 +56,10 @@ rows =
     accepts (cup ++ (roe " 0.0" "   2 w -" ++ poe " 0.0" "   1 b -")) 2 1 0 ∷
     scores (ascii "162  W 3.0    D 1.0") (ascii "11111==00") 170 ∷ []
 
-computed : all test rows ≡ true
+-- one computation a row
+computed : AllOf (λ r. test r ≡ true) rows
 unfolding rows line cup roe poe sampleT brokenT test cells flat top scoringOf shares kindOf normal usedRounds roundsOf tournamentOf isBye isGame fits keeps worth earned isPast isAgain isTooMany linesOf isFileFault labels itemOf outcomeOf
-computed = refl
+computed = (refl, (refl, (refl, (refl, (refl, (refl, (refl, (refl, (refl, (refl, (refl, (refl, tt))))))))))))
 
 pub marked : AllOf RowHolds rows
-marked = all-tested rows computed
+marked = all-hold rows computed

@@ -2,7 +2,7 @@
 use mathlib.Core.Path.{_≡_}
 use mathlib.Core.Bool.{Bool, true, false, _&&_, not}
 use mathlib.Core.Option.{Option, none, some}
-use mathlib.Core.List.{List, [], map}
+use mathlib.Core.List.{List, [], _∷_, map}
 use Prim.Native.Nat.{ℕ, _<_}
 use Prim.Native.Char.{code}
 use lib.Dec.{eqb, ltb}
@@ -22,7 +22,7 @@ use Rattle.law.specs.Entries.{fits, earned}
 use Rattle.law.specs.Lawful.{noAcceleration}
 use Rattle.law.specs.Tables.{Tables, Lent, enough, enoughLent, keptCells, entryCells, lineCells, contentOf, linesContent, answerOf}
 use Rattle.law.specs.Refusals.{Outcome, refused, accepted}
-use Rattle.law.specs.Calls.{Reads, Writes, Asks}
+use Rattle.law.specs.Calls.{refusedAnswer, Reads, Writes, Asks}
 use Rattle.law.proofs.RecordsRead.{itemOf}
 use Rattle.law.proofs.Judges.{outcomeOf}
 use Rattle.law.proofs.Replies.{writeOf, askOf, bytesOf, spelledBy}
@@ -111,6 +111,8 @@ pub data Row : Type 0 where
   refuses : List ℕ → ℕ → ℕ → ℕ → Row
   -- the file is accepted, with so many players, rounds and acceleration records
   accepts : List ℕ → ℕ → ℕ → ℕ → Row
+  -- the file's answer has these parts: number, line, round, players, rounds, acceleration records, text length, colour, six values
+  answers : List ℕ → List ℕ → Row
   -- results under the scoring that a line spells are worth so many tenths
   scores : List ℕ → List ℕ → ℕ → Row
   -- the file is accepted, and these cells then hold these numbers
@@ -189,12 +191,16 @@ OfLent Says lends qs a after = (tables : Tables) → Lends lends after tables �
 abbrev pub Fit : Bool → ℕ → ℕ → Type 0
 Fit b own other = (fits own other ≡ b) × (fits other own ≡ b)
 
+abbrev pub partsOf : Answer → List ℕ
+partsOf a = a .number ∷ a .line .0 ∷ a .round ∷ a .players ∷ a .rounds ∷ a .accelerations ∷ a .text ∷ a .colour ∷ a .values
+
 abbrev pub asEntry : ℕ → Entry
 asEntry result = record { id = 0; colour = code "-"; result = result }
 
 unfoldable pub RowHolds : Row → Type 0
 RowHolds (refuses file k l r) = Always file (Refuses k l r)
 RowHolds (accepts file p r n) = Always file (λ a after. Counts p r n a)
+RowHolds (answers file parts) = Always file (λ a after. partsOf a ≡ parts)
 RowHolds (scores line played n) = (given : List (ℕ × ℕ)) × SpellsItem line (scoring given) × (earned (scoringOf given) (map asEntry played) ≡ n)
 RowHolds (stores file cells) = Always file (HoldsCells cells)
 RowHolds (writes lends file qs) = Always file (OfLent WritesSo lends qs)
@@ -211,6 +217,10 @@ isRefused k l r (accepted t ps rs) = false
 abbrev pub isAccepted : ℕ → ℕ → ℕ → Outcome → Bool
 isAccepted p r n (refused x) = false
 isAccepted p r n (accepted t ps rs) = eqb (length (t .players)) p && eqb (t .rounds) r && eqb (length (t .accelerations)) n
+
+abbrev pub answerIn : Outcome → Answer
+answerIn (refused x) = refusedAnswer x
+answerIn (accepted t ps rs) = answerOf t
 
 abbrev pub isScored : List ℕ → ℕ → Option Item → Bool
 isScored played n none = false
@@ -260,6 +270,7 @@ doNotFit own other = not (fits own other) && not (fits other own)
 unfoldable pub test : Row → Bool
 test (refuses file k l r) = isRefused k l r (outcomeOf true file)
 test (accepts file p r n) = isAccepted p r n (outcomeOf true file)
+test (answers file parts) = same (partsOf (answerIn (outcomeOf true file))) parts
 test (scores line played n) = isScored played n (itemOf line)
 test (stores file cells) = areStored cells (outcomeOf true file)
 test (writes lends file qs) = ofLent isWritten lends qs (outcomeOf true file)

@@ -30,10 +30,10 @@ use Rattle.law.proofs.ReadsOnce.{reads-some}
 use Rattle.law.proofs.Replies.{writeOf, askOf, bytesOf, spelledBy}
 use Rattle.law.proofs.RepliesRight.{IsReadingOf, writes-as, asks-as, writes-some, asks-some, short-unread, left-is}
 
-use Rattle.law.proofs.Rows.{cellIn, cellsIn, cellOfTournament, LentAs, as-left, cut-short, Counts, Refuses, Always, HoldsCells, Lends, Wrote, Replied, WritesSo, AsksSo, Fit, asEntry, isRefused, isAccepted, isScored, areStored, isWhole, readingIn, isWrote, isWritten, isReplied, isAsked, ofLent, OfLent, Output, Question, doFit, doNotFit, Computed}
+use Rattle.law.proofs.Rows.{cellIn, cellsIn, cellOfTournament, LentAs, as-left, cut-short, Counts, Refuses, Always, HoldsCells, Lends, Wrote, Replied, WritesSo, AsksSo, Fit, asEntry, partsOf, answerIn, isRefused, isAccepted, isScored, areStored, isWhole, readingIn, isWrote, isWritten, isReplied, isAsked, ofLent, OfLent, Output, Question, doFit, doNotFit, Computed}
 
 -- the rows themselves, for those who state some
-pub use Rattle.law.proofs.Rows.{Table, starts, points, ranks, kept, opponents, colours, results, text, lines, added, first-rounds, last-rounds, first-starts, last-starts, text-length, initial-colour, value, Row, refuses, accepts, scores, stores, writes, asks, fitting, spells, spells-nothing}
+pub use Rattle.law.proofs.Rows.{Table, starts, points, ranks, kept, opponents, colours, results, text, lines, added, first-rounds, last-rounds, first-starts, last-starts, text-length, initial-colour, value, Row, refuses, accepts, answers, scores, stores, writes, asks, fitting, spells, spells-nothing}
 unfoldable pub use Rattle.law.proofs.Rows.{RowHolds, test}
 
 -- ---- what is computed holds of the relation
@@ -44,6 +44,11 @@ always file Says h = λ before long. (
       h before long a after (subst (λ (o : Outcome). Leaves o before a after) (sym (is-judged true file (r .outcome) j)) (r .leaves)),
   reads-some file before,
 )
+
+-- ---- the whole answer
+answer-is : (o : Outcome) (before : Lent) (a : Answer) (after : Lent) → Leaves o before a after → a ≡ answerIn o
+answer-is (refused x) before a after h = h .0
+answer-is (accepted t ps rs) before a after h = h .0
 
 -- ---- a refusal
 cleared-cell : (x : Refusal) (before after : Lent) (a : Answer) → a ≡ refusedAnswer x → HoldLent zeros (λ i. 0) before after → (k : Table) (i : ℕ) → i < cellsIn k → cellIn a after k i ≡ 0
@@ -211,6 +216,7 @@ tested : (r : Row) → test r ≡ true → RowHolds r
 unfolding test RowHolds
 tested (refuses file k l r) e = always file (Refuses k l r) (refused-says k l r (outcomeOf true file) e)
 tested (accepts file p r n) e = always file (λ a after. Counts p r n a) (accepted-says p r n (outcomeOf true file) e)
+tested (answers file parts) e = always file (λ a after. partsOf a ≡ parts) (λ before long a after h. ap partsOf (answer-is (outcomeOf true file) before a after h) ∙ same-is (partsOf (answerIn (outcomeOf true file))) parts e)
 tested (scores line played n) e = go (itemOf line) refl e
   where
     go : (o : Option Item) → itemOf line ≡ o → isScored played n o ≡ true → (given : List (ℕ × ℕ)) × SpellsItem line (scoring given) × (earned (scoringOf given) (map asEntry played) ≡ n)
@@ -236,6 +242,10 @@ tested (asks lends file qs) e = left file (OfLent AsksSo lends qs)
 tested (fitting own fit misfit) e = let k = and (all (doFit own) fit) (all (doNotFit own) misfit) e in (all-so (doFit own) (Fit true own) (do-fit own) fit (k .0), all-so (doNotFit own) (Fit false own) (do-not-fit own) misfit (k .1))
 tested (spells line) e = spelled item .sound line e
 tested (spells-nothing line) e = unspelled item .sound line e
+
+pub all-hold : (l : List Row) → AllOf (λ r. test r ≡ true) l → AllOf RowHolds l
+all-hold [] e = tt
+all-hold (r ∷ l) e = (tested r (e .0), all-hold l (e .1))
 
 pub all-tested : (l : List Row) → all test l ≡ true → AllOf RowHolds l
 all-tested [] e = tt
