@@ -1,11 +1,15 @@
 #!/usr/bin/env python3
-"""mutate.py [WORD..]: changes the statement in one place at a time, in copies under target/mutants, and expects each change to be refused.
-A change that survives shows a rule that no row and no theorem guards. With words, only the changes whose file or text has one of them."""
-import os, re, shutil, subprocess, sys
+"""mutate.py [--jobs N] [WORD..]: changes the statement in one place at a time, in copies under target/mutants, and says at which row or theorem each change is refused.
+A change counts as refused where a computed row fails, or where a theorem below no longer holds; an error anywhere else is SHAPE: a proof broke, but nothing was said
+that the change makes false. SHAPE and SURVIVES show a rule that no row and no theorem guards. A change of a function that decides a relation (proofs/..) must be seen
+at a row: it stands for a change that relation and function share. With words, only the changes whose file or text has one of them. N copies at a time, 2 if not said."""
+import argparse, os, re, shutil, subprocess, sys
 from concurrent.futures import ThreadPoolExecutor
 from queue import Queue
 
 ROOT = os.path.dirname(os.path.dirname(os.path.abspath(__file__)))
+KEEP = ("types", "kit", "law", "written")
+
 CHANGES = [
     # sizes
     ("Sizes", "mostFile = 65535", "mostFile = 65534"),
@@ -201,19 +205,295 @@ CHANGES = [
     ("Calls", "round = x .round;\n      players = 0;", "round = x .round;\n      players = 1;"),
     ("Calls", "line = record { 0 = x .line };\n      round = x .round;\n      players", "line = record { 0 = x .round };\n      round = x .line;\n      players"),
     ("Calls", "pub judged : Judged (enoughLent before) file outcome", "pub judged : Judged true file outcome"),
+    # ---- two players, results, titles, dates: what only a row can see
+    ("Entries", "not (eqb (theirs .colour) (e .colour))", "(not (eqb (theirs .colour) (e .colour)) || eqb (e .colour) (code \"b\"))"),
+    ("Entries", "not (eqb (theirs .colour) (e .colour))", "(not (eqb (theirs .colour) (e .colour)) || eqb (e .colour) (code \"w\"))"),
+    ("Entries", 'eqb (entryOf r p .result) (code "U")', 'eqb (entryOf r p .result) (code "U") && not (eqb r 3)'),
+    ("Entries", 'eqb (entryOf r p .result) (code "U")', 'eqb (entryOf r p .result) (code "U") && not (eqb r 20)'),
+    ("Entries", 'eqb (entryOf r p .result) (code "U")', 'eqb (entryOf r p .result) (code "F")'),
+    ("Players", "isBirth field = all isBlank field ||", "isBirth field = elseBlank 1 ((10, 10) ∷ []) field ||"),
+    ("Players", "isBirth field = all isBlank field ||", "isBirth field = elseBlank 1 ((1, 1) ∷ []) field ||"),
+    ("Players", 'ascii "WCM" ∷', 'ascii "WCM" ∷ ascii "NM " ∷'),
+    ("Players", 'ascii "WCM" ∷', 'ascii "WCM" ∷ ascii "XXX" ∷'),
+    ("Players", 'titles = ascii "GM " ∷', 'titles = ascii " GM" ∷'),
+    ("Players", 'sexes = ascii "m" ∷', 'sexes = ascii "f" ∷ ascii "m" ∷'),
+    ("Writing", "pointsOr0 (some a) = a .points", "pointsOr0 (some a) = a .points % 100"),
+    ("Writing", "pointsOr0 none = 0", "pointsOr0 none = 1"),
+    # results that fit
+    *[("Entries", 'ascii "10" ∷', 'ascii "10" ∷ ascii "%s" ∷' % p) for p in ("+0", "11", "1=", "1W", "1L", "1D", "1+", "1-", "0L", "0-", "=D", "=-", "WW", "W-", "LL", "DL", "L-", "D-", "++", "+L", "+W")],
+    *[("Entries", 'ascii "%s" ∷' % p, "") for p in ("10", "==", "WL", "DD", "+-")],
+    # what a result earns
+    *[("Entries", 'ascii "%s"' % s, 'ascii "%s"' % s.replace(c, "")) for s in ("1W+F", "=DH", "0L", "-Z", "U") for c in s],
+    ("Entries", "(s .pairing) 0", "(s .unknown) 0"),
+    ("Entries", "sumOf (λ e. worth s (e .result)) entries", "sumOf (λ e. worth s (e .result)) (take 1 entries)"),
+    ("Entries", "isBye e = eqb (e .id) 0 &&", "isBye e = eqb (e .result) (e .result) &&"),
+    ("Entries", "among (e .colour) gameColours && among (e .result) gameResults", "among (e .result) gameResults"),
+    ("Entries", "among (e .colour) gameColours && among (e .result) gameResults", "among (e .colour) gameColours"),
+    ("Entries", "entryOf r p = getD (p .entries) (r - 1) noEntry", "entryOf r p = getD (p .entries) r noEntry"),
+    ("Entries", "statesSum t place = eqb (playerAt t place .points)", "statesSum t place = eqb (playerAt t 0 .points)"),
+    # letters, columns and defaults
+    ("Heads", 'initialColours = ascii "WB"', 'initialColours = ascii "WBX"'),
+    ("Heads", 'initialColours = ascii "WB"', 'initialColours = ascii "W"'),
+    ("Heads", 'colourCode = ascii "152"', 'colourCode = ascii "153"'),
+    ("Scoring", "loss = 0; absent = 0", "loss = 5; absent = 0"),
+    ("Scoring", "win = 10; draw = 5", "win = 11; draw = 5"),
+    ("Scoring", "pairing = 10; unknown = 5", "pairing = 11; unknown = 5"),
+    ("Scoring", "(15, 19) ∷ (24, 28)", "(15, 19) ∷ (25, 29)"),
+    ("Scoring", "(33, 37) ∷ (42, 46)", "(34, 38) ∷ (42, 46)"),
+    ("Scoring", "(33, 37) ∷ (42, 46)", "(33, 37) ∷ (43, 47)"),
+    ("Scoring", '(code "W", s .win) ∷ (code "D", s .draw)', '(code "D", s .draw) ∷ (code "W", s .win)'),
+    ("Scoring", '(code "L", s .loss) ∷ (code "A", s .absent)', '(code "A", s .absent) ∷ (code "L", s .loss)'),
+    *[("Scoring", '(code "%s") given' % c, '(code "Y") given') for c in "WDLAPX"],
+    ("Accelerations", "addedField = (10, 13)", "addedField = (9, 13)"),
+    ("Accelerations", "lastRoundField = (19, 21)", "lastRoundField = (19, 22)"),
+    ("Accelerations", "firstStartField = (23, 26)", "firstStartField = (22, 26)"),
+    ("Accelerations", "leb first last′ && leb first′ last", "leb first′ last"),
+    ("Accelerations", "leb first last′ && leb first′ last", "not (leb last′ first) && leb first′ last"),
+    ("Accelerations", "leb first last′ && leb first′ last", "leb first last′ && not (leb last first′)"),
+    ("Accelerations", "overlap (a .«first_start») (a .«last_start») (b .«first_start») (b .«last_start»)", "overlap (a .«first_start») (a .«first_start») (b .«first_start») (b .«last_start»)"),
+    ("Accelerations", "between (a .«first_round») (a .«last_round») round", "between 1 (a .«last_round») round"),
+    ("Accelerations", "between (a .«first_round») (a .«last_round») round", "between (a .«first_round») 20 round"),
+    ("Accelerations", "between (a .«first_start») (a .«last_start») start", "between 1 (a .«last_start») start"),
+    ("Accelerations", "between (a .«first_start») (a .«last_start») start", "between (a .«first_start») 9999 start"),
+    ("Players", "birthField = (70, 79)", "birthField = (70, 78)"),
+    ("Players", "resultColumn r = idColumn r + 7", "resultColumn r = idColumn r + 8"),
+    ("Players", "idColumn r = 92 + 10 * (r - 1)", "idColumn r = 92 + 11 * (r - 1)"),
+    ("Players", 'slotColours = gameColours ++ ascii "- "', 'slotColours = gameColours ++ ascii "-"'),
+    ("Players", 'slotColours = gameColours ++ ascii "- "', 'slotColours = gameColours ++ ascii "- x"'),
+    ("Players", '(byeResults ++ ascii " ")', '(byeResults ++ ascii "")'),
+    ("Players", '(byeResults ++ ascii " ")', '(byeResults ++ ascii " A")'),
+    ("Players", 'gameResults = ascii "1=0WDL+-"', 'gameResults = ascii "1=0WDL+"'),
+    ("Players", 'gameColours = ascii "wb"', 'gameColours = ascii "w"'),
+    ("Players", 'byeResults = ascii "HFUZ"', 'byeResults = ascii "HFUZ1"'),
+    # sizes, the other way
+    ("Sizes", "mostFile = 65535", "mostFile = 65536"),
+    ("Sizes", "mostPlayers = 200", "mostPlayers = 199"),
+    ("Sizes", "mostAccelerations = 32", "mostAccelerations = 31"),
+    ("Sizes", "mostText = 2048", "mostText = 2049"),
+    ("Sizes", "mostPoints = 999", "mostPoints = 1000"),
+    ("Sizes", "mostStart = 9999", "mostStart = 10000"),
+    ("Sizes", "mostRank = 9999", "mostRank = 10000"),
+    ("Lines", "CR = 13", "CR = 12"),
+    ("Lines", "hasNoCR text = all (λ c. not (eqb c CR)) text", "hasNoCR text = true"),
+    ("Fields", 'between (code "0") (code "9") c', 'between (code "/") (code "9") c'),
+    ("Fields", 'between (code "0") (code "9") c', 'between (code "0") (code ":") c'),
+    ("Fields", 'between (code "0") (code "9") c', 'between (code "1") (code "9") c'),
+    ("Fields", "hasShape (s ∷ shape) [] = false", "hasShape (s ∷ shape) [] = true"),
+    # the tournament
+    ("Tournament", 'blankAs (code "-") (s .colour)', 'blankAs (code "w") (s .colour)'),
+    ("Tournament", "slotAt r p = getD (p .slots) (r - 1) noSlot", "slotAt r p = getD (p .slots) r noSlot"),
+    ("Tournament", "any (λ p. slotAt r p .used) lines", "all (λ p. slotAt r p .used) lines"),
+    ("Tournament", "points = p .points; rank = p .rank; entries", "points = p .rank; rank = p .points; entries"),
+    ("Tournament", "start = p .start; kept = p .kept;", "start = p .rank; kept = p .kept;"),
+    ("Tournament", "colour = onlyOr 0 (flat colourIn items)", "colour = onlyOr 66 (flat colourIn items)"),
+    # the numbers of the refusals
+    *[("Refusals", "lineFaultNumber %s = %d" % (f, n), "lineFaultNumber %s = %d" % (f, n % 9 + 3)) for f, n in (("bad-byte", 3), ("no-CR", 4), ("too-long", 5), ("not-listed", 6), ("bad-field", 7), ("too-many", 9))],
+    *[("Refusals", "fileFaultNumber %s = %d" % (f, n), "fileFaultNumber %s = %d" % (f, n + 10)) for f, n in (("incomplete", 10), ("past-142", 11), ("(unlawful bye-or-game)", 12), ("(unlawful fitting-results)", 14), ("(unlawful one-U)", 15), ("wrong-sum", 16), ("shared", 17))],
+    ("Refusals", "refusalOf too-short = refusal 1 0 0", "refusalOf too-short = refusal 2 0 0"),
+    ("Refusals", "refusalOf too-big = refusal 2 0 0", "refusalOf too-big = refusal 1 0 0"),
+    ("Refusals", "labels lines = too-short ∷ too-big ∷", "labels lines = too-big ∷ too-short ∷"),
+    # the first player in file order counts, then the lowest round
+    ("Refusals", "eachRound f seats = flat (λ s. map (of-file f s) everyRound) seats", "eachRound f seats = flat (λ r. map (λ s. of-file f s r) seats) everyRound"),
+    ("Refusals", "past-142 = eachRound past-142 players", "past-142 = flat (λ r. map (λ s. of-file past-142 s r) players) everyRound"),
+    ("Refusals", "(unlawful law) = eachRound (unlawful law) players", "(unlawful law) = flat (λ r. map (λ s. of-file (unlawful law) s r) players) everyRound"),
+    *[("Refusals", "isAgain before (%s) = %s" % (k, v), "isAgain before (%s) = false" % k) for k, v in (("text kept", "isRepeated (flat textIn before) kept"), ("rounds n", "not (isEmpty (flat roundsIn before))"), ("scoring given", "not (isEmpty (flat scoringIn before))"))],
+    ("Refusals", "any (λ (q : PlayerLine). eqb (q .start) (p .start)) (flat playerIn before)", "false"),
+    # the writer
+    ("Writing", "number nothing roundsField n", "number noughts roundsField n"),
+    ("Writing", "number blanks startField", "number noughts startField"),
+    ("Writing", "number noughts lastRoundField", "number blanks lastRoundField"),
+    ("Writing", "number noughts firstStartField", "number blanks firstStartField"),
+    ("Writing", "number noughts lastStartField", "number blanks lastStartField"),
+    ("Writing", "(f, v .0 ∷ pointsText blank (v .1))", "(f, v .0 ∷ pointsText (code \"0\") (v .1))"),
+    ("Writing", "(pointsField, pointsText blank (p .points))", "(pointsField, pointsText (code \"0\") (p .points))"),
+    ("Writing", "cond (eqb (p / 100) 0) fill (digit (p / 100))", "cond (eqb (p / 100) 0) fill (digit 1)"),
+    ("Writing", 'digit n = code "0" + n % 10', 'digit n = code "0" + n % 9'),
+    ("Writing", "(filled fill w (n / 10))", "(filled fill w 1)"),
+    ("Writing", "colourLines c = cond (eqb c 0) [] (colourLine c ∷ [])", "colourLines c = colourLine c ∷ []"),
+    # what is handed back
+    *[("Tables", "%s = entryCellsOf (λ e. e .%s) t" % (k, v), "%s = entryCellsOf (λ e. e .id) t" % k) for k, v in (("colours", "colour"), ("results", "result"))],
+    ("Tables", "points = cellsOf (map (λ p. p .points) (t .players))", "points = cellsOf (map (λ p. p .start) (t .players))"),
+    ("Tables", "starts = cellsOf (map (λ p. p .start) (t .players))", "starts = cellsOf (map (λ p. p .rank) (t .players))"),
+    ("Tables", "text = cellsOf (flat ended (t .text))", "text = cellsOf (flat (λ l. l) (t .text))"),
+    ("Tables", "players = length (t .players);", "players = t .rounds;"),
+    ("Tables", "accelerations = length (t .accelerations);", "accelerations = 0;"),
+    ("Tables", "colour = t .colour;", "colour = 0;"),
+    ("Tables", "line = record { 0 = 0 };", "line = record { 0 = 1 };"),
+    ("Tables", "      round = 0;", "      round = 1;"),
+    *[("Tables", "%s = λ i. 0;" % k, "%s = λ i. 1;" % k) for k in ("starts", "points", "ranks", "opponents", "colours", "results", "text")],
+    *[("Tables", "pub %s : Holds 0 %s" % (k, n), "pub %s : Holds 0 1" % k) for k, n in (("starts", "mostPlayers"), ("points", "mostPlayers"), ("ranks", "mostPlayers"), ("opponents", "entryCells"), ("colours", "entryCells"), ("results", "entryCells"), ("text", "mostText"))],
+    *[("Tables", "(%s, length (t .%s)) ∷" % (n, k), "") for k, n in (("starts", "mostPlayers"), ("points", "mostPlayers"), ("ranks", "mostPlayers"), ("kept", "keptCells"), ("opponents", "entryCells"), ("colours", "entryCells"), ("results", "entryCells"), ("text", "mostText"))],
+    # what writer and question refuse
+    ("Calls", "denialOf tables-short = refusalOf too-short", "denialOf tables-short = refusal 2 0 0"),
+    ("Calls", "denialOf no-reading = refusal 18 0 0", "denialOf no-reading = refusal 19 0 0"),
+    ("Calls", "denialOf no-reading = refusal 18 0 0", "denialOf no-reading = refusal 18 1 0"),
+    ("Calls", "denialOf no-reading = refusal 18 0 0", "denialOf no-reading = refusal 18 0 1"),
+    ("Calls", "denialOf out-short = refusal 19 0 0", "denialOf out-short = refusal 18 0 0"),
+    ("Calls", "denialOf out-short = refusal 19 0 0", "denialOf out-short = refusal 19 1 0"),
+    ("Calls", "denialOf no-place = refusal 20 0 0", "denialOf no-place = refusal 19 0 0"),
+    ("Calls", "denialOf no-place = refusal 20 0 0", "denialOf no-place = refusal 20 0 1"),
+    ("Calls", "writerDenials = tables-short ∷ no-reading ∷", "writerDenials = no-reading ∷ tables-short ∷"),
+    ("Calls", "writerDenials = tables-short ∷ no-reading ∷", "writerDenials = no-reading ∷"),
+    ("Calls", "questionDenials = tables-short ∷ no-reading ∷", "questionDenials = no-reading ∷ tables-short ∷"),
+    ("Calls", "questionDenials = tables-short ∷ no-reading ∷ no-place ∷ []", "questionDenials = tables-short ∷ no-reading ∷ []"),
+    ("Calls", "pub short : room < length (written writerEnd t)", "pub short : room ≤ length (written writerEnd t)"),
+    ("Calls", "(place < length (t .players)) × (1 ≤ round)", "(place ≤ length (t .players)) × (1 ≤ round)"),
+    ("Calls", "× (1 ≤ round) ×", "× (0 ≤ round) ×"),
+    ("Calls", "× (round ≤ t .rounds) → ⊥", "× (round < t .rounds) → ⊥"),
+    ("Calls", "pub untouched : after ≡ before", "pub untouched : after ≡ after"),
+    ("Calls", "r ≡ writtenAnswer (denialOf denial) 0", "r ≡ writtenAnswer (denialOf denial) 1"),
+    ("Calls", "r ≡ scoreAnswer (denialOf denial) 0 0", "r ≡ scoreAnswer (denialOf denial) 1 0"),
+    ("Calls", "r ≡ scoreAnswer (denialOf denial) 0 0", "r ≡ scoreAnswer (denialOf denial) 0 1"),
+    ("Calls", "r ≡ writtenAnswer noRefusal (length (written writerEnd t))", "r ≡ writtenAnswer noRefusal 0"),
+    ("Calls", "(λ i. getD (written writerEnd t) i 0) before after", "(λ i. getD (written writerEnd t) 0 0) before after"),
+    ("Calls", "scoreAnswer noRefusal (earnedBefore t place round) (accelerationFor t place round)", "scoreAnswer noRefusal (accelerationFor t place round) (earnedBefore t place round)"),
+    ("Calls", "writerEnd = cr", "writerEnd = Rattle.law.specs.Lines.crlf"),
+    ("Calls", "(t : Tournament) → Reading answer tables file t → ⊥", "(t : Tournament) → Reading answer tables file t → SpellsFile file t"),
+    ("Calls", "pub accepts : answer .number ≡ 0", "pub accepts : answer ≡ answer"),
+    ("Calls", "WriterDenies answer tables room tables-short = enough tables ≡ false", "WriterDenies answer tables room tables-short = enough tables ≡ true"),
+    ("Calls", "QuestionDenies answer tables place round tables-short = enough tables ≡ false", "QuestionDenies answer tables place round tables-short = enough tables ≡ true"),
+    ("Calls", "round = x .round; length = n }", "round = x .round; length = x .number }"),
+    ("Calls", "points = points; acceleration = acceleration }", "points = acceleration; acceleration = points }"),
+    *[("Calls", "      %s = 0;\n" % k, "      %s = 1;\n" % k) for k in ("rounds", "accelerations", "text", "colour")],
+    ("Calls", "values = map (λ c. 0) letters", "values = map (λ c. 1) letters"),
+    ("Calls", "ask-refused : AskRefused answer tables (place .0) round r", "ask-refused : AskRefused answer tables round (place .0) r"),
+    # ---- the functions that decide the relations, which the rows compute: a change that relation and function share must be seen at a row
+    ("proofs/FieldsRead", "(some (digitValue a * 100 + digitValue b * 10 + digitValue d))\n", "(some (digitValue a * 10 + digitValue b * 10 + digitValue d))\n"),
+    ("proofs/FieldsRead", 'arePoints a b c d = eqb c (code ".") && (isTens a && isDigit b && isDigit d)', 'arePoints a b c d = eqb c (code ".") && (isTens a && isDigit b)'),
+    ("proofs/FieldsRead", 'arePoints a b c d = eqb c (code ".") && (isTens a && isDigit b && isDigit d)', 'arePoints a b c d = eqb c (code ".") && (isTens a && isDigit d)'),
+    ("proofs/FieldsRead", 'arePoints a b c d = eqb c (code ".") && (isTens a && isDigit b && isDigit d)', "arePoints a b c d = isTens a && isDigit b && isDigit d"),
+    ("proofs/FieldsRead", 'arePoints a b c d = eqb c (code ".") && (isTens a && isDigit b && isDigit d)', 'arePoints a b c d = eqb c (code ".") && (isDigit b && isDigit d)'),
+    ("proofs/FieldsRead", "numberOr0 none-there = some 0", "numberOr0 none-there = none"),
+    ("proofs/FieldsRead", "theNumber none-there = none", "theNumber none-there = some 1"),
+    ("proofs/FieldsRead", "numberOf (c ∷ cs) = cond (isBlank c) (numberOf cs) (digitsFrom 0 (c ∷ cs))", "numberOf (c ∷ cs) = cond (isBlank c) (digitsFrom 0 cs) (digitsFrom 0 (c ∷ cs))"),
+    ("proofs/FieldsRead", "(leadingFrom (n * 10 + digitValue c) l) (when (all isBlank (c ∷ l)) (some n))\n\n", "(leadingFrom (n * 10 + digitValue c) l) (some n)\n\n"),
+    ("proofs/FieldsRead", "leadingOf (c ∷ l) = when (isDigit c) (leadingFrom (0 * 10 + digitValue c) l)", "leadingOf (c ∷ l) = leadingFrom 0 (c ∷ l)"),
+    ("proofs/FieldsRead", "trim (c ∷ l) = consUnless (isBlank c && isNil (trim l)) c (trim l)", "trim (c ∷ l) = c ∷ l"),
+    ("proofs/FieldsRead", "trim (c ∷ l) = consUnless (isBlank c && isNil (trim l)) c (trim l)", "trim (c ∷ l) = consUnless (isBlank c) c (trim l)"),
+    ("proofs/RecordsRead", "textOf row = when (isBlank (col row afterCode) && saysName row)", "textOf row = when (isBlank (col row afterCode))"),
+    ("proofs/RecordsRead", "textOf row = when (isBlank (col row afterCode) && saysName row)", "textOf row = when (saysName row)"),
+    ("proofs/RecordsRead", "roundsOfRow row = when (elseBlank afterCode (roundsField ∷ []) row)", "roundsOfRow row = when true"),
+    ("proofs/RecordsRead", "(keep (λ n. leb n mostRounds) (leadingOf (part roundsField row)))\n", "(leadingOf (part roundsField row))\n"),
+    ("proofs/RecordsRead", "colourOf row = when (among (col row colourColumn) initialColours && elseBlank afterCode (column colourColumn ∷ []) row)", "colourOf row = when (elseBlank afterCode (column colourColumn ∷ []) row)"),
+    ("proofs/RecordsRead", "colourOf row = when (among (col row colourColumn) initialColours && elseBlank afterCode (column colourColumn ∷ []) row)", "colourOf row = when (among (col row colourColumn) initialColours)"),
+    ("proofs/RecordsRead", "valueOf slot = when (among (col slot 1) letters)", "valueOf slot = when true"),
+    ("proofs/RecordsRead", "fillOr true others v l = when others (some [])", "fillOr true others v l = some []"),
+    ("proofs/RecordsRead", "areGiven given = not (isEmpty given) && lettersDiffer given", "areGiven given = lettersDiffer given"),
+    ("proofs/RecordsRead", "areGiven given = not (isEmpty given) && lettersDiffer given", "areGiven given = not (isEmpty given)"),
+    ("proofs/RecordsRead", "givenOf row = when (elseBlank afterCode slotFields row)", "givenOf row = when true"),
+    ("proofs/RecordsRead", "«first_round» = f .1 .0 .0; «last_round» = f .1 .0 .1;", "«first_round» = f .1 .0 .1; «last_round» = f .1 .0 .0;"),
+    ("proofs/RecordsRead", "«first_start» = f .1 .1 .0; «last_start» = f .1 .1 .1 }", "«first_start» = f .1 .1 .1; «last_start» = f .1 .1 .0 }"),
+    ("proofs/RecordsRead", "    when (elseBlank afterCode accelerationFields row)\n    (keep isAcceleration\n", "    when true\n    (keep isAcceleration\n"),
+    ("proofs/RecordsRead", "    when (elseBlank afterCode accelerationFields row)\n    (keep isAcceleration\n", "    when (elseBlank afterCode accelerationFields row)\n    (keep (λ a. true)\n"),
+    *[("proofs/RecordsRead", "    (isOneOf (part sexField (inLine k)) sexes && isOneOf (part titleField (inLine k)) titles && isBirth (part birthField (inLine k)) && elseBlank (keptField .0) keptFields (inLine k))\n", "    (%s)\n" % v) for v in (
+        "isOneOf (part titleField (inLine k)) titles && isBirth (part birthField (inLine k)) && elseBlank (keptField .0) keptFields (inLine k)",
+        "isOneOf (part sexField (inLine k)) sexes && isBirth (part birthField (inLine k)) && elseBlank (keptField .0) keptFields (inLine k)",
+        "isOneOf (part sexField (inLine k)) sexes && isOneOf (part titleField (inLine k)) titles && elseBlank (keptField .0) keptFields (inLine k)",
+        "isOneOf (part sexField (inLine k)) sexes && isOneOf (part titleField (inLine k)) titles && isBirth (part birthField (inLine k))")],
+    ("proofs/RecordsRead", "    && isSome (numberOr0 (numberOf (part ratingField (inLine k))))\n", "    && true\n"),
+    ("proofs/RecordsRead", "colour = col row (entryColourColumn r); result = capital (col row (resultColumn r)); used = isUsed row r }", "colour = col row (entryColourColumn r); result = col row (resultColumn r); used = isUsed row r }"),
+    ("proofs/RecordsRead", "    when (among (col row (entryColourColumn r)) slotColours && among (capital (col row (resultColumn r))) slotResults)\n", "    when (among (capital (col row (resultColumn r))) slotResults)\n"),
+    ("proofs/RecordsRead", "    when (among (col row (entryColourColumn r)) slotColours && among (capital (col row (resultColumn r))) slotResults)\n", "    when (among (col row (entryColourColumn r)) slotColours)\n"),
+    ("proofs/RecordsRead", "    when (elseBlank afterCode playerFields row && isKept (part keptField row))\n", "    when (elseBlank afterCode playerFields row)\n"),
+    ("proofs/RecordsRead", "    when (elseBlank afterCode playerFields row && isKept (part keptField row))\n", "    when (isKept (part keptField row))\n"),
+    ("proofs/RecordsRead", "(pair (keep (between 1 mostStart) (numberIn startField row)) (pointsIn pointsField row))", "(pair (numberIn startField row) (pointsIn pointsField row))"),
+    ("proofs/RecordsRead", "(pair (keep (between 1 mostRank) (numberIn rankField row)) (slotsOf row))", "(pair (numberIn rankField row) (slotsOf row))"),
+    ("proofs/Cut", "endFor true = some crlf", "endFor true = some cr"),
+    ("proofs/Cut", "step true isCR c e rest = rest", "step true isCR c e rest = push c rest"),
+    ("proofs/Faults", "testLine bad-byte before l = not (all allowed (l .text))", "testLine bad-byte before l = false"),
+    ("proofs/Faults", "testLine no-CR before l = not (isEnded (l .end))", "testLine no-CR before l = false"),
+    ("proofs/Faults", "testLine too-long before l = ltb mostLine (length (rowOf (l .text)))", "testLine too-long before l = ltb 513 (length (rowOf (l .text)))"),
+    ("proofs/Faults", "testLine not-listed before l = isUnlisted (kindOf (rowOf (l .text)))", "testLine not-listed before l = false"),
+    ("proofs/Faults", "testLine bad-field before l = not (isSome (lineItem l))", "testLine bad-field before l = false"),
+    ("proofs/Faults", "testLine again before l = testAfter isAgain (lineItems before) (lineItem l)", "testLine again before l = false"),
+    ("proofs/Faults", "testLine too-many before l = testAfter isTooMany (lineItems before) (lineItem l)", "testLine too-many before l = false"),
+    ("proofs/Replies", "isTooLong (some t) room = ltb room (length (written writerEnd t))", "isTooLong (some t) room = not (ltb (length (written writerEnd t)) room)"),
+    ("proofs/Replies", "writerDenied long o room tables-short = not long", "writerDenied long o room tables-short = false"),
+    ("proofs/Replies", "writerDenied long o room no-reading = not (isSome o)", "writerDenied long o room no-reading = false"),
+    ("proofs/Replies", "questionDenied long o place round tables-short = not long", "questionDenied long o place round tables-short = false"),
+    ("proofs/Replies", "questionDenied long o place round no-reading = not (isSome o)", "questionDenied long o place round no-reading = false"),
+    ("proofs/Replies", "not (ltb place (length (t .players)) && leb 1 round && leb round (t .rounds))", "not (ltb place (length (t .players)) && leb 1 round)"),
+    ("proofs/Replies", "not (ltb place (length (t .players)) && leb 1 round && leb round (t .rounds))", "not (ltb place (length (t .players)) && leb round (t .rounds))"),
+    ("proofs/Replies", "not (ltb place (length (t .players)) && leb 1 round && leb round (t .rounds))", "not (leb 1 round && leb round (t .rounds))"),
+    ("proofs/Replies", "writeBy o (some d) = writtenAnswer (denialOf d) 0", "writeBy o (some d) = writtenAnswer (denialOf d) 1"),
+    ("proofs/Replies", "bytesBy o (some d) = []", "bytesBy o (some d) = 0 ∷ []"),
+    ("proofs/Replies", "askBy o place round (some d) = scoreAnswer (denialOf d) 0 0", "askBy o place round (some d) = scoreAnswer (denialOf d) 0 1"),
 ]
+
+# ---- what may refuse a change beside a row: the theorems of docs/STATEMENT.md, by module. Each says something that the change makes false.
+THEOREMS = {
+    # every relation is decided by its function, which the rows compute: a relation that is changed alone is not decided any more
+    "FieldsRead": {"number", "number-or-blank", "points", "leading", "trimmed"},
+    "RecordsRead": {"text-line", "rounds-line", "colour-line", "value", "scoring-line", "acceleration-line", "kept-columns", "slot", "player-line", "item"},
+    "Cut": {"lines-are", "lines-unique", "cut-complete"},
+    "Faults": {"faults", "lines-spelled"},
+    "RepliesRight": {"writer-tests", "question-tests", "writes-as", "asks-as", "writes-some", "asks-some", "left-is"},
+    "LawfulTested": {"file", "lawful"},
+    # accepted exactly when lawful, one tournament a file, one answer and content an input
+    "Accepts": {"no-fault-lawful", "lawful-no-fault", "one-tournament", "tested-file"},
+    "LinesRead": {"lines-good", "good-lines"},
+    "NewAndFew": {"few-fits", "fits-few", "new-once", "once-new"},
+    "Judges": {"judged", "is-judged", "accepted-lawful", "lawful-accepted", "refused-exactly"},
+    "ReadsOnce": {"reads-once", "reads-some", "reads-lawful"},
+    "TwoReadings": {"one-tournament-a-reading", "same-lines"},
+    "Readings": {"refused-not-0", "reading-has", "one-reading"},
+    # the limits by their numerals, and what every row says of every cell
+    "Edges": {"sizes", "line-cells", "as-many", "too-big-refused", "small-not-too-big", "players-full", "players-room", "accelerations-full", "accelerations-room", "text-full", "text-room", "short-untouched"},
+    "Samples": {"cleared-cell", "refused-says", "accepted-says", "holds-cell"},
+    "Heads": {"rounds-spelled", "colour-spelled", "scoring-spelled", "acceleration-spelled"},
+    "Spelled": {"written-spells"},
+    "Lengths": {"written-long", "written-accepted"},
+}
+# a theorem is proved by parts that stand in its own module: an error in one of these is the theorem's
+BY_PARTS = {"FieldsRead", "RecordsRead", "Cut", "Faults", "RepliesRight", "LawfulTested"}
 
 
 def lawful_conjuncts():
-    """Each conjunct of Lawful that is an equation or an order, dropped."""
+    """Each conjunct of Lawful, and of a player's part of it, dropped."""
     text = open(os.path.join(ROOT, "crates/law/specs/Lawful.antt")).read()
-    record = text[text.index("pub record Lawful (t"):]
-    for m in re.finditer(r"  pub (\S+) : (.*)\n", record):
-        yield ("Lawful", m.group(0), "  pub %s : Unit {0}\n" % m.group(1))
+    for name in ("KeptLine (line", "LawfulPlayer (R", "Lawful (t"):
+        record = text[text.index("pub record " + name):]
+        for m in re.finditer(r"  pub (\S+) : (.*)\n", record[:(record + "\n\n").index("\n\n") + 1]):
+            yield ("Lawful", m.group(0), "  pub %s : Unit {0}\n" % m.group(1))
 
 
-def is_proved(out):
-    return "logic=proved" in out.split("crate law")[-1]
+class Errors:
+    """What the checker said of a crate: its rows that fail, its own errors, and which error each of the others follows from."""
+
+    def __init__(self, out):
+        self.proved = out.rstrip().split("\n")[-1].startswith("logic=proved")
+        self.rows, self.own, self.follows, name = [], [], {}, None
+        for line in out.split("\n"):
+            m = re.match(r".*crates/\w+/(?:specs|proofs)/(\w+)\.antt:(\d+):\d+: error: (?:`([^`]+)`: )?(.*)", line)
+            if m:
+                module, number, name, what = m.groups()
+                n = re.match(r"`([^`]+)` was not admitted", what)
+                if n:
+                    self.follows.setdefault((module, n.group(1)), []).append(name)
+                else:
+                    self.own.append((module, name or "line " + number))
+            r = re.search(r"test \((.*)\) ≡ (?:mathlib\.Core\.Bool\.)?true", line)
+            if r and name in ("guardRows", "computed") and r.group(1) not in self.rows:
+                self.rows.append(r.group(1))
+
+    def theorem(self):
+        for module, name in self.own:
+            if name in THEOREMS.get(module, ()):
+                return name
+        for module, name in self.own:
+            seen, todo = set(), [name] if module in BY_PARTS else []
+            while todo:
+                x = todo.pop(0)
+                if x in THEOREMS[module]:
+                    return "%s (%s)" % (x, name)
+                seen.add(x)
+                todo += [y for y in self.follows.get((module, x), []) if y not in seen]
+        return None
+
+
+def said(room, crate):
+    run = subprocess.run(["rt", "dev", crate], cwd=room, capture_output=True, text=True, env=dict(os.environ, RT_JOBS="1"))
+    return Errors(run.stdout + run.stderr)
 
 
 def workers(n):
@@ -222,48 +502,61 @@ def workers(n):
         room = os.path.join(ROOT, "target", "mutants", str(i))
         shutil.rmtree(room, ignore_errors=True)
         os.makedirs(room)
-        shutil.copy(os.path.join(ROOT, "crates.txt"), room)
-        keep = ("types", "kit", "law")
-        for crate in keep:
+        for crate in KEEP:
             shutil.copytree(os.path.join(ROOT, "crates", crate), os.path.join(room, "crates", crate))
-        lines = open(os.path.join(room, "crates.txt")).read().split("\n")
-        open(os.path.join(room, "crates.txt"), "w").write("\n".join(l for l in lines if l.split(":")[0] in keep) + "\n")
-        unchanged = subprocess.run(["rt", "dev", "law"], cwd=room, capture_output=True, text=True)
-        if not is_proved(unchanged.stdout + unchanged.stderr):
+        lines = open(os.path.join(ROOT, "crates.txt")).read().split("\n")
+        open(os.path.join(room, "crates.txt"), "w").write("\n".join(l for l in lines if l.split(":")[0] in KEEP) + "\n")
+        if not said(room, "law").proved:
             sys.exit("mutate: the unchanged statement is not proved")
         rooms.put(room)
     return rooms
 
 
+def judge(room, name):
+    """Verdict and place: rows first, then theorems of law, then theorems of written."""
+    law = said(room, "law")
+    if law.rows:
+        return "refused", "row " + law.rows[0]
+    if name.startswith("proofs/"):
+        return "NO ROW", "%s %s" % law.own[0] if law.own else ""
+    if law.theorem():
+        return "refused", "theorem " + law.theorem()
+    if not law.proved:
+        return "SHAPE", "%s %s" % law.own[0] if law.own else "?"
+    written = said(room, "written")
+    if written.theorem():
+        return "refused", "theorem " + written.theorem()
+    return ("SURVIVES", "") if written.proved else ("SHAPE", "%s %s" % written.own[0] if written.own else "?")
+
+
 def main():
-    words = sys.argv[1:]
-    changes = [c for c in CHANGES + list(lawful_conjuncts()) if not words or any(w in c[0] or w in c[1] for w in words)]
-    rooms, bad = workers(2), 0
+    parser = argparse.ArgumentParser(description=__doc__, formatter_class=argparse.RawDescriptionHelpFormatter)
+    parser.add_argument("--jobs", type=int, default=2, metavar="N")
+    parser.add_argument("words", nargs="*", metavar="WORD")
+    args = parser.parse_args()
+    changes = [c for c in CHANGES + list(lawful_conjuncts()) if not args.words or any(w in c[0] or w in c[1] or w in c[2] for w in args.words)]
+    rooms, bad = workers(args.jobs), 0
 
     def tried(change):
         name, old, new = change
         room = rooms.get()
-        path = os.path.join(room, "crates/law/specs", name + ".antt")
+        path = os.path.join(room, "crates/law", (name if "/" in name else "specs/" + name) + ".antt")
         text = open(path).read()
         try:
             if text.count(old) != 1:
                 return "NOT ONE PLACE", change, str(text.count(old))
             open(path, "w").write(text.replace(old, new))
-            run = subprocess.run(["rt", "dev", "law"], cwd=room, capture_output=True, text=True)
-            out = run.stdout + run.stderr
-            if is_proved(out):
-                return "SURVIVES", change, ""
-            errors = [l for l in out.split("\n") if "error" in l]
-            return "refused", change, re.sub(r"^.*crates/law/", "", errors[0])[:70] if errors else "?"
+            verdict, where = judge(room, name)
+            return verdict, change, where
         finally:
             open(path, "w").write(text)
             rooms.put(room)
 
-    with ThreadPoolExecutor(2) as pool:
+    with ThreadPoolExecutor(args.jobs) as pool:
         for verdict, (name, old, new), where in pool.map(tried, changes):
             if verdict != "refused":
                 bad += 1
-            print("%-13s %-13s %-50s %s" % (verdict, name, old.replace("\n", " ")[:50], where), flush=True)
+            print("%-13s %-19s %-60s %s" % (verdict, name, new.replace("\n", " ").strip()[:60], where[:110]), flush=True)
     print("%d changes, %d not refused" % (len(changes), bad))
     sys.exit(1 if bad else 0)
 

@@ -9,10 +9,13 @@ use borrow.Author.Tests.{lt-ltb, le-ltb}
 use Rattle.kit.specs.Lists.{flat}
 use Rattle.kit.proofs.Bools.{clash}
 use Rattle.types.specs.declared.Acceleration.{Acceleration}
-use Rattle.law.specs.Text.{ended}
-use Rattle.law.specs.Players.{PlayerLine}
+use Rattle.law.specs.Text.{textCodes, ended}
+use Rattle.law.specs.Heads.{initialColours}
+use Rattle.law.specs.Scoring.{letters}
+use Rattle.law.specs.Players.{sexes, titles, gameColours, gameResults, byeResults, PlayerLine}
 use Rattle.law.specs.Items.{Item, text, acceleration, player}
 use Rattle.law.specs.Tournament.{textIn, accelerationIn, playerIn}
+use Rattle.law.specs.Entries.{fittingPairs}
 use Rattle.types.specs.declared.Answer.{Answer}
 use Rattle.law.specs.Tables.{Tables, Lent, rooms, lineCells, enoughLent}
 use Rattle.law.specs.Refusals.{isTooMany, too-short, too-big, labels, IsFault, refusal, Outcome, refused, Judged}
@@ -26,6 +29,12 @@ sizes t = refl
 
 pub line-cells : lineCells ≡ 232
 line-cells = refl
+
+-- as many as each sentence lists, so that none is too many: the rows accept every one of them. Kept text, initial colours, letters, sexes, titles, game
+-- colours, game results, bye results, pairs that fit
+pub as-many : length textCodes ∷ length initialColours ∷ length letters ∷ length sexes ∷ length titles ∷ length gameColours ∷ length gameResults ∷ length byeResults ∷ length fittingPairs ∷ []
+    ≡ 16 ∷ 2 ∷ 6 ∷ 3 ∷ 9 ∷ 2 ∷ 8 ∷ 4 ∷ 6 ∷ []
+as-many = refl
 
 -- 2 for every file over 65,535 bytes, whatever is in it
 pub too-big-refused : (file : List ℕ) → 65536 ≤ length file → Judged true file (refused (refusal 2 0 0))
