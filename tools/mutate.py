@@ -500,8 +500,9 @@ def workers(n):
     rooms = Queue()
     for i in range(n):
         room = os.path.join(ROOT, "target", "mutants", str(i))
-        shutil.rmtree(room, ignore_errors=True)
-        os.makedirs(room)
+        # what the checker has kept of an earlier run stays, so that it has less to check
+        shutil.rmtree(os.path.join(room, "crates"), ignore_errors=True)
+        os.makedirs(room, exist_ok=True)
         for crate in KEEP:
             shutil.copytree(os.path.join(ROOT, "crates", crate), os.path.join(room, "crates", crate))
         lines = open(os.path.join(ROOT, "crates.txt")).read().split("\n")

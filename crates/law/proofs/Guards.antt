@@ -47,6 +47,19 @@ rowWith more = put 1 ((1, "001") ∷ (5, "   1") ∷ (81, " 0.0") ∷ (86, "   1
 unfoldable pub rowOfTexts : List (ℕ × String) → List ℕ
 rowOfTexts texts = put 1 ((1, "001") ∷ texts)
 
+-- one line, or a 001 line with one kept text, spells an item or none
+abbrev pub right : String → Row
+right s = spells (ascii s)
+
+abbrev pub wrong : String → Row
+wrong s = spells-nothing (ascii s)
+
+abbrev pub rightKept : ℕ → String → Row
+rightKept c s = spells (keptRow c s)
+
+abbrev pub wrongKept : ℕ → String → Row
+wrongKept c s = spells-nothing (keptRow c s)
+
 unfoldable pub crlf-line : String → List ℕ
 crlf-line s = ascii s ++ (13 ∷ 10 ∷ [])
 
@@ -110,6 +123,136 @@ wrongSum = two " 0.5" "   2 w 1" " 0.0" "   1 b 0"
 unfoldable pub guardRows : List Computed
 unfolding put person keptRow rowWith rowOfTexts crlf-line alone two twoAt after note fullText scoring roeLine event eventWritten highest accelerated wrongSum line cup roe poe sampleT test cells flat top scoringOf shares covers kindOf normal usedRounds roundsOf tournamentOf isBye isGame fits keeps worth earned isPast contentOf answerOf isAgain isTooMany linesOf isFileFault labels writtenLines written earnedBefore accelerationFor refusedAnswer writtenAnswer scoreAnswer itemOf outcomeOf
 guardRows =
+    -- ---- lines that spell an item
+    (right "", refl) ∷ (right "   ", refl) ∷ (right "### any", refl) ∷ (right "162  W 3.0    D 1.0", refl) ∷ (right "162  X10.5   ", refl) ∷
+    (right "162  W 1.0    D 0.5    L 0.0    A 0.0    P 1.0    X 0.5    ", refl) ∷ (right "250       1.0   1  20    1 9999", refl) ∷
+    (right "250      01.0 003 003 0090 0090  ", refl) ∷ (right "250      99.9 020 020 9999 9999", refl) ∷ (right "142 0", refl) ∷ (right "142 007  ", refl) ∷
+    (right "142 20", refl) ∷ (right "152 W", refl) ∷ (right "152 B   ", refl) ∷ (right "012 Cup", refl) ∷ (right "022", refl) ∷ (right "022    ", refl) ∷
+    (right "022 x", refl) ∷ (right "032 x", refl) ∷ (right "042 x", refl) ∷ (right "052 x", refl) ∷ (right "062 x", refl) ∷ (right "072 x", refl) ∷ (right "092 x", refl) ∷
+    (right "102 x", refl) ∷ (right "112 x", refl) ∷ (right "122 x", refl) ∷ (right "132 x", refl) ∷ (right "192 x", refl) ∷ (right "202 x", refl) ∷ (right "212 x", refl) ∷
+    (right "222 x", refl) ∷ (right "162  D99.9    L10.0", refl) ∷ (right "162  A 0.0    P 0.0    X 0.0", refl) ∷ (right "112", refl) ∷
+    -- ---- lines that spell none
+    (wrong "162", refl) ∷ (wrong "162  W 1.0    W 1.0", refl) ∷ (wrong "162           D 0.5", refl) ∷ (wrong "162  W 1.0             L 0.0", refl) ∷
+    (wrong "162  W 1.0 x", refl) ∷ (wrong "162  w 1.0", refl) ∷ (wrong "162 W 1.0", refl) ∷ (wrong "162 xW 1.0", refl) ∷ (wrong "162x W 1.0", refl) ∷
+    (wrong "162  W  .5", refl) ∷ (wrong "162  W 1,0", refl) ∷ (wrong "162  Y 1.0", refl) ∷ (wrong "162  W 1.0    D 0.5    L 0.0    A 0.0    P 1.0    X 0.5    W 1.0", refl) ∷
+    (wrong "162  W 1.0    D 0.5    L 0.0    A 0.0    P 1.0    X 0.5x", refl) ∷ (wrong "250      00.0 001 003 0001 0090", refl) ∷
+    (wrong "250      01.0 004 003 0001 0090", refl) ∷ (wrong "250      01.0 001 021 0001 0090", refl) ∷ (wrong "250      01.0 021 021 0001 0090", refl) ∷
+    (wrong "250      01.0 000 003 0001 0090", refl) ∷ (wrong "250      01.0 001 003 0091 0090", refl) ∷ (wrong "250      01.0 001 003 0000 0090", refl) ∷
+    (wrong "250 0001 01.0 001 003 0001 0090", refl) ∷ (wrong "250x     01.0 001 003 0001 0090", refl) ∷ (wrong "250      01.0 001 003 0001 0090 x", refl) ∷
+    (wrong "250      01.0 001 003 0001     ", refl) ∷ (wrong "250      01.0x001 003 0001 0090", refl) ∷ (wrong "250      01.0 001x003 0001 0090", refl) ∷
+    (wrong "250      01.0 001 003x0001 0090", refl) ∷ (wrong "250      01.0 001 003 0001x0090", refl) ∷ (wrong "250     x01.0 001 003 0001 0090", refl) ∷
+    (wrong "250      01.0 1   003 0001 0090", refl) ∷ (wrong "142 ", refl) ∷ (wrong "142 21", refl) ∷ (wrong "142  3", refl) ∷ (wrong "142 0003", refl) ∷
+    (wrong "142 3 4", refl) ∷ (wrong "142x3", refl) ∷ (wrong "142 x", refl) ∷ (wrong "152 w", refl) ∷ (wrong "152  W", refl) ∷ (wrong "152 WB", refl) ∷ (wrong "152xW", refl) ∷
+    (wrong "152", refl) ∷ (wrong "012", refl) ∷ (wrong "012   ", refl) ∷ (wrong "012xCup", refl) ∷ (wrong "022x", refl) ∷ (wrong "013 Team", refl) ∷ (wrong "01", refl) ∷
+    (wrong "082 x", refl) ∷ (wrong "172 x", refl) ∷ (wrong "352 x", refl) ∷ (wrong "362 x", refl) ∷ (wrong "142", refl) ∷ (wrong "162  W 1. ", refl) ∷
+    (wrong "162  Wx1.0", refl) ∷ (wrong "162  W 1.0    Dx", refl) ∷ (wrong "162  W  1.0", refl) ∷ (wrong "162  A 1.0    A 1.0", refl) ∷ (wrong "162  W 1:0", refl) ∷
+    (wrong "250      01.0 001 003 0001 0000", refl) ∷ (wrong "250         0 001 003 0001 0090", refl) ∷ (wrong "250      01.0     003 0001 0090", refl) ∷
+    (wrong "250      01.0 001     0001 0090", refl) ∷ (wrong "250      01.0 001 003      0090", refl) ∷ (wrong "142 1x", refl) ∷ (wrong "142 /", refl) ∷
+    (wrong "142 :", refl) ∷ (wrong "152 X", refl) ∷ (wrong "152 b", refl) ∷ (wrong "152 W x", refl) ∷ (wrong "## 4", refl) ∷ (wrong "001", refl) ∷
+    -- ---- 001 lines
+    (spells (rowWith []), refl) ∷ (spells (rowWith ((92, "9999 b -") ∷ [])), refl) ∷ (spells (rowWith ((282, "0000 - z") ∷ [])), refl) ∷ (rightKept 10 "m", refl) ∷
+    (rightKept 10 "w", refl) ∷ (wrongKept 10 "M", refl) ∷ (wrongKept 10 "f", refl) ∷ (rightKept 11 "GM", refl) ∷ (rightKept 11 "IM", refl) ∷ (rightKept 11 "WGM", refl) ∷
+    (rightKept 11 "FM", refl) ∷ (rightKept 11 "WIM", refl) ∷ (rightKept 11 "CM", refl) ∷ (rightKept 11 "WFM", refl) ∷ (rightKept 11 "WCM", refl) ∷ (wrongKept 12 "GM", refl) ∷
+    (wrongKept 11 "gm", refl) ∷ (wrongKept 11 "KM", refl) ∷ (rightKept 15 "012345678901234567890123456789012", refl) ∷
+    (wrongKept 15 "0123456789012345678901234567890123", refl) ∷ (wrongKept 14 "x", refl) ∷ (rightKept 49 "   0", refl) ∷ (rightKept 49 "0000", refl) ∷
+    (rightKept 52 "7", refl) ∷ (wrongKept 49 "24 1", refl) ∷ (wrongKept 49 "240 ", refl) ∷ (wrongKept 53 "x", refl) ∷ (rightKept 54 "xyz", refl) ∷ (wrongKept 57 "x", refl) ∷
+    (rightKept 58 "x y z x y z", refl) ∷ (wrongKept 69 "x", refl) ∷ (rightKept 70 "0000/99/00", refl) ∷ (wrongKept 70 "1990-01-01", refl) ∷ (wrongKept 70 "1990/1/01 ", refl) ∷
+    (wrongKept 70 "1990", refl) ∷ (wrongKept 80 "x", refl) ∷ (spells-nothing (rowOfTexts ((5, "   0") ∷ (81, " 0.0") ∷ (86, "   1") ∷ [])), refl) ∷
+    (spells (rowOfTexts ((5, "9999") ∷ (81, "99.9") ∷ (86, "9999") ∷ [])), refl) ∷ (spells-nothing (rowOfTexts ((5, "   1") ∷ (81, " 0.0") ∷ (86, "   0") ∷ [])), refl) ∷
+    (spells-nothing (rowOfTexts ((5, "   1") ∷ (81, " 0.0") ∷ [])), refl) ∷ (spells-nothing (rowOfTexts ((5, "   1") ∷ (86, "   1") ∷ [])), refl) ∷
+    (spells-nothing (rowOfTexts ((81, " 0.0") ∷ (86, "   1") ∷ [])), refl) ∷ (spells-nothing (put 1 ((1, "001x") ∷ (5, "   1") ∷ (81, " 0.0") ∷ (86, "   1") ∷ [])), refl) ∷
+    (spells-nothing (rowOfTexts ((5, "   1") ∷ (9, "x") ∷ (81, " 0.0") ∷ (86, "   1") ∷ [])), refl) ∷
+    (spells-nothing (rowOfTexts ((5, "   1") ∷ (81, " 0.0") ∷ (85, "x") ∷ (86, "   1") ∷ [])), refl) ∷ (spells-nothing (rowWith ((90, "x") ∷ [])), refl) ∷
+    (spells-nothing (rowWith ((91, "x") ∷ [])), refl) ∷ (spells-nothing (rowWith ((96, "x") ∷ [])), refl) ∷ (spells-nothing (rowWith ((98, "x") ∷ [])), refl) ∷
+    (spells-nothing (rowWith ((100, "x") ∷ [])), refl) ∷ (spells-nothing (rowWith ((281, "x") ∷ [])), refl) ∷ (spells-nothing (rowWith ((288, "x") ∷ [])), refl) ∷
+    (spells-nothing (rowWith ((290, "x") ∷ [])), refl) ∷ (spells-nothing (rowWith ((299, "x") ∷ [])), refl) ∷ (spells-nothing (rowWith ((92, " x  ") ∷ [])), refl) ∷
+    (spells-nothing (rowWith ((97, "W") ∷ [])), refl) ∷ (spells-nothing (rowWith ((97, "B") ∷ [])), refl) ∷ (spells-nothing (rowWith ((99, "?") ∷ [])), refl) ∷
+    (spells-nothing (rowWith ((99, "A") ∷ [])), refl) ∷ (spells-nothing (rowWith ((289, "2") ∷ [])), refl) ∷ (wrongKept 11 "NM", refl) ∷ (wrongKept 11 "WNM", refl) ∷
+    (wrongKept 11 "G", refl) ∷ (wrongKept 11 "wgm", refl) ∷ (wrongKept 11 "MG", refl) ∷
+    -- nine blanks and a byte; and each place of a date
+    (wrongKept 79 "x", refl) ∷ (wrongKept 79 "1", refl) ∷ (wrongKept 70 "x", refl) ∷ (wrongKept 70 "x990/01/02", refl) ∷ (wrongKept 70 "1x90/01/02", refl) ∷
+    (wrongKept 70 "19x0/01/02", refl) ∷ (wrongKept 70 "199x/01/02", refl) ∷ (wrongKept 70 "1990x01/02", refl) ∷ (wrongKept 70 "1990/x1/02", refl) ∷
+    (wrongKept 70 "1990/0x/02", refl) ∷ (wrongKept 70 "1990/01x02", refl) ∷ (wrongKept 70 "1990/01/x2", refl) ∷ (wrongKept 70 "1990/01/0x", refl) ∷
+    (rightKept 70 "9999/99/99", refl) ∷
+    -- digits end at 0 and 9; points and numbers in every column
+    (wrongKept 49 "240/", refl) ∷ (wrongKept 49 "240:", refl) ∷ (wrongKept 49 "x401", refl) ∷
+    (spells-nothing (rowOfTexts ((5, "1   ") ∷ (81, " 0.0") ∷ (86, "   1") ∷ [])), refl) ∷
+    (spells-nothing (rowOfTexts ((5, "  1x") ∷ (81, " 0.0") ∷ (86, "   1") ∷ [])), refl) ∷
+    (spells-nothing (rowOfTexts ((5, "   1") ∷ (81, "x0.0") ∷ (86, "   1") ∷ [])), refl) ∷
+    (spells-nothing (rowOfTexts ((5, "   1") ∷ (81, " 0. ") ∷ (86, "   1") ∷ [])), refl) ∷
+    (spells-nothing (rowOfTexts ((5, "   1") ∷ (81, "  .0") ∷ (86, "   1") ∷ [])), refl) ∷
+    (spells-nothing (rowOfTexts ((5, "   1") ∷ (81, " 0,0") ∷ (86, "   1") ∷ [])), refl) ∷
+    (spells-nothing (rowOfTexts ((5, "   1") ∷ (81, " 0.0") ∷ (86, "1   ") ∷ [])), refl) ∷
+    (spells-nothing (rowOfTexts ((5, "   1") ∷ (81, " 0.0") ∷ (86, "   :") ∷ [])), refl) ∷
+    -- every colour and result, capital and small, is a byte of a round
+    (spells (rowWith ((92, "0000 w 1  0000 b =  0000 - 0  0000   W  0000   D  0000   L  0000   +  0000   -  0000   H  0000   F  0000   U  0000   Z  0000   w  0000   d  0000   l  0000   h  0000   f  0000   u  0000   z") ∷ [])), refl) ∷
+    -- ---- which results fit, from either side
+    (fitting (code "1") (ascii "0") (ascii "1=WDL+-HFUZ"), refl) ∷ (fitting (code "=") (ascii "=") (ascii "10WDL+-HFUZ"), refl) ∷
+    (fitting (code "0") (ascii "1") (ascii "=0WDL+-HFUZ"), refl) ∷ (fitting (code "W") (ascii "L") (ascii "1=0WD+-HFUZ"), refl) ∷
+    (fitting (code "D") (ascii "D") (ascii "1=0WL+-HFUZ"), refl) ∷ (fitting (code "L") (ascii "W") (ascii "1=0DL+-HFUZ"), refl) ∷
+    (fitting (code "+") (ascii "-") (ascii "1=0WDL+HFUZ"), refl) ∷ (fitting (code "-") (ascii "+-") (ascii "1=0WDLHFUZ"), refl) ∷
+    -- ---- refused answers: 18, with room and without, at any place; tables that are too short: 1, whatever else is wrong
+    (writes as-left wrongSum ((700, 18, []) ∷ (0, 18, []) ∷ []), refl) ∷ (writes as-left [] ((700, 18, []) ∷ (0, 18, []) ∷ []), refl) ∷
+    (asks as-left wrongSum ((0, 1, 18, 0, 0) ∷ (2, 0, 18, 0, 0) ∷ []), refl) ∷ (asks as-left [] ((0, 1, 18, 0, 0) ∷ (0, 0, 18, 0, 0) ∷ []), refl) ∷
+    (writes cut-short sampleT ((700, 1, []) ∷ (0, 1, []) ∷ []), refl) ∷ (writes cut-short wrongSum ((700, 1, []) ∷ (0, 1, []) ∷ []), refl) ∷
+    (asks cut-short sampleT ((0, 1, 1, 0, 0) ∷ (2, 0, 1, 0, 0) ∷ []), refl) ∷ (asks cut-short wrongSum ((0, 1, 1, 0, 0) ∷ (2, 0, 1, 0, 0) ∷ []), refl) ∷
+    -- ---- the question
+    (asks as-left event ((0, 1, 0, 0, 5) ∷ (0, 2, 0, 100, 5) ∷ (0, 3, 0, 110, 0) ∷ (1, 1, 0, 0, 5) ∷ (1, 3, 0, 0, 0) ∷ (2, 1, 20, 0, 0) ∷ (9, 1, 20, 0, 0) ∷ (0, 0, 20, 0, 0) ∷ (1, 4, 20, 0, 0) ∷ (2, 0, 20, 0, 0) ∷ []), refl) ∷
+    (asks as-left accelerated ((0, 2, 0, 0, 0) ∷ (1, 1, 0, 0, 0) ∷ (1, 2, 0, 0, 125) ∷ (1, 3, 0, 0, 125) ∷ (1, 4, 0, 0, 0) ∷ (2, 3, 0, 0, 125) ∷ (3, 2, 0, 0, 0) ∷ (3, 5, 20, 0, 0) ∷ (4, 4, 20, 0, 0) ∷ []), refl) ∷
+    (asks as-left (after []) ((0, 1, 20, 0, 0) ∷ []), refl) ∷
+    -- ---- the writer: exact room, more room, one byte short, no room; and the highest numbers
+    (writes as-left event ((386, 0, eventWritten) ∷ (400, 0, eventWritten) ∷ (385, 19, []) ∷ (0, 19, []) ∷ []), refl) ∷ (
+      writes as-left (two " 1.0" "   2 w +" " 0.0" "   1 b -" ++ line "142 020")
+          ((
+            700,
+            0,
+            cup ++ (line "142 20" ++ (line "162  W 1.0    D 0.5    L 0.0    A 0.0    P 1.0    X 0.5" ++
+                (person "   1" " 1.0" "   1" ((92, "   2 w +  0000 - Z  0000 - Z  0000 - Z  0000 - Z  0000 - Z  0000 - Z  0000 - Z  0000 - Z  0000 - Z  0000 - Z  0000 - Z  0000 - Z  0000 - Z  0000 - Z  0000 - Z  0000 - Z  0000 - Z  0000 - Z  0000 - Z") ∷ []) ++
+                person "   2" " 0.0" "   2" ((92, "   1 b -  0000 - Z  0000 - Z  0000 - Z  0000 - Z  0000 - Z  0000 - Z  0000 - Z  0000 - Z  0000 - Z  0000 - Z  0000 - Z  0000 - Z  0000 - Z  0000 - Z  0000 - Z  0000 - Z  0000 - Z  0000 - Z  0000 - Z") ∷ [])))),
+          ) ∷ []),
+      refl,
+    ) ∷
+    (writes as-left highest ((234, 0, highest) ∷ []), refl) ∷
+    -- ---- the tables and the answer
+    (
+      stores event
+          ((starts, 0, 12) ∷ (starts, 1, 7) ∷ (starts, 2, 0) ∷ (points, 0, 110) ∷ (points, 1, 0) ∷ (ranks, 0, 3) ∷ (ranks, 1, 1) ∷ (ranks, 2, 0) ∷
+          (kept, 0, code "m") ∷ (kept, 1, code "G") ∷ (kept, 5, code "R") ∷ (kept, 69, code "2") ∷ (kept, 70, 32) ∷ (kept, 139, 32) ∷ (kept, 140, 0) ∷
+          (opponents, 0, 7) ∷ (opponents, 1, 0) ∷ (opponents, 3, 0) ∷ (opponents, 20, 12) ∷ (opponents, 21, 0) ∷ (colours, 0, code "w") ∷ (colours, 1, code "-") ∷ (colours, 2, code "-") ∷ (colours, 3, 0) ∷
+          (colours, 20, code "b") ∷ (colours, 21, code "-") ∷ (colours, 22, code "-") ∷ (colours, 23, 0) ∷ (colours, 40, 0) ∷ (results, 0, code "1") ∷ (results, 1, code "U") ∷ (results, 2, code "Z") ∷ (results, 3, 0) ∷
+          (results, 20, code "0") ∷ (results, 21, code "Z") ∷ (results, 22, code "Z") ∷ (results, 23, 0) ∷
+          (text, 0, code "0") ∷ (text, 6, code "p") ∷ (text, 7, 13) ∷ (text, 8, code "0") ∷ (text, 12, code "x") ∷ (text, 13, 13) ∷ (text, 14, 0) ∷ (text-length, 0, 14) ∷
+          (added, 0, 5) ∷ (first-rounds, 0, 1) ∷ (last-rounds, 0, 2) ∷ (first-starts, 0, 7) ∷ (last-starts, 0, 9999) ∷ (added, 1, 10) ∷ (first-rounds, 1, 3) ∷ (last-rounds, 1, 3) ∷ (first-starts, 1, 1) ∷ (last-starts, 1, 1) ∷ (added, 2, 0) ∷ (last-starts, 31, 0) ∷
+          (lines, 0, 4) ∷ (lines, 1, 7) ∷ (lines, 2, 0) ∷ (lines, 199, 0) ∷ (lines, 200, 3) ∷ (lines, 201, 6) ∷ (lines, 202, 0) ∷ (lines, 231, 0) ∷
+          (initial-colour, 0, code "B") ∷ (value, 0, 100) ∷ (value, 1, 15) ∷ (value, 2, 0) ∷ (value, 3, 0) ∷ (value, 4, 10) ∷ (value, 5, 5) ∷ []),
+      refl,
+    ) ∷
+    (stores (cup ++ (line scoring ++ alone)) ((initial-colour, 0, 0) ∷ (value, 0, 30) ∷ (value, 1, 10) ∷ (value, 2, 2) ∷ (value, 3, 1) ∷ (value, 4, 20) ∷ (value, 5, 7) ∷ []), refl) ∷
+    (accepts event 2 3 2, refl) ∷ (answers event (0 ∷ 0 ∷ 0 ∷ 2 ∷ 3 ∷ 2 ∷ 14 ∷ code "B" ∷ 100 ∷ 15 ∷ 0 ∷ 0 ∷ 10 ∷ 5 ∷ []), refl) ∷
+    (answers (after []) (0 ∷ 0 ∷ 0 ∷ 1 ∷ 0 ∷ 0 ∷ 8 ∷ 0 ∷ 10 ∷ 5 ∷ 0 ∷ 0 ∷ 10 ∷ 5 ∷ []), refl) ∷
+    (answers (two " 1.0" "   2 w 1" " 0.0" "   1 w 0") (13 ∷ 2 ∷ 1 ∷ 0 ∷ 0 ∷ 0 ∷ 0 ∷ 0 ∷ 0 ∷ 0 ∷ 0 ∷ 0 ∷ 0 ∷ 0 ∷ []), refl) ∷ (
+      stores highest ((starts, 0, 9999) ∷ (points, 0, 999) ∷ (ranks, 0, 9999) ∷ (added, 0, 999) ∷ (first-rounds, 0, 20) ∷ (last-rounds, 0, 20) ∷ (first-starts, 0, 9999) ∷ (added, 1, 105) ∷ (last-rounds, 1, 10) ∷ (first-starts, 1, 1005) ∷ (last-starts, 1, 1050) ∷
+          (value, 0, 999) ∷ (value, 1, 105) ∷ (value, 2, 200) ∷ (value, 3, 301) ∷ (value, 4, 402) ∷ (value, 5, 503) ∷ []),
+      refl,
+    ) ∷
+    (stores (cup ++ (line "162  X 0.7" ++ alone)) ((value, 0, 10) ∷ (value, 1, 5) ∷ (value, 2, 0) ∷ (value, 3, 0) ∷ (value, 4, 10) ∷ (value, 5, 7) ∷ []), refl) ∷
+    (stores (cup ++ (line "152 W" ++ alone)) ((initial-colour, 0, code "W") ∷ (value, 0, 10) ∷ (value, 1, 5) ∷ (value, 2, 0) ∷ (value, 3, 0) ∷ (value, 4, 10) ∷ (value, 5, 5) ∷ []), refl) ∷
+    -- ---- what a result earns, over rounds and scorings
+    (accepts (two " 1.0" "   2 w +" " 0.0" "   1 b -") 2 1 0, refl) ∷
+    (accepts (cup ++ (line scoring ++ person "   1" " 6.2" "   1" ((92, "0000 - F  0000 - H  0000 - U  0000 - Z         Z") ∷ []))) 1 5 0, refl) ∷
+    (accepts (line scoring ++ two " 3.0" "   2 w W" " 0.2" "   1 b L") 2 1 0, refl) ∷ (accepts (line scoring ++ two " 3.0" "   2 w +" " 0.1" "   1 b -") 2 1 0, refl) ∷
+    (accepts (line scoring ++ two " 1.0" "   2 w =" " 1.0" "   1 b =") 2 1 0, refl) ∷ (accepts (line scoring ++ two " 1.0" "   2 w D" " 1.0" "   1 b D") 2 1 0, refl) ∷
+    (accepts (line scoring ++ two " 0.2" "   2 w 0" " 3.0" "   1 b 1") 2 1 0, refl) ∷
+    (accepts (cup ++ person "   1" " 2.5" "   1" ((92, "0000 - F  0000 - H  0000 - U  0000 - Z") ∷ [])) 1 4 0, refl) ∷
+    (refuses (cup ++ (line "162  W50.0" ++ person "   1" " 0.0" "   1" ((92, "0000 - F  0000 - F") ∷ []))) 16 3 0, refl) ∷
+    (refuses (two " 1.0" "   2 w 1" " 0.5" "   1 b 0") 16 3 0, refl) ∷
+    (accepts (cup ++ (line "250      05.0 001 001 0001 0001" ++ person "   1" " 0.0" "   1" ((92, "0000 - Z") ∷ []))) 1 1 1, refl) ∷
+    (scores (ascii scoring) (ascii "1") 30, refl) ∷ (scores (ascii scoring) (ascii "W") 30, refl) ∷ (scores (ascii scoring) (ascii "+") 30, refl) ∷
+    (scores (ascii scoring) (ascii "F") 30, refl) ∷ (scores (ascii scoring) (ascii "=") 10, refl) ∷ (scores (ascii scoring) (ascii "D") 10, refl) ∷
+    (scores (ascii scoring) (ascii "H") 10, refl) ∷ (scores (ascii scoring) (ascii "0") 2, refl) ∷ (scores (ascii scoring) (ascii "L") 2, refl) ∷
+    (scores (ascii scoring) (ascii "-") 1, refl) ∷ (scores (ascii scoring) (ascii "Z") 1, refl) ∷ (scores (ascii scoring) (ascii "U") 20, refl) ∷
+    (scores (ascii "162  X 0.7") (ascii "1W+F=DH0L-ZU") 65, refl) ∷ (scores (ascii scoring) (ascii "1W+F=DH0L-ZU") 176, refl) ∷
+    (refuses (cup ++ (alone ++ (person "   2" " 0.0" "   2" [] ++ person "   3" "10.0" "   3" []))) 16 4 0, refl) ∷
     -- ---- lines and terminators
     (accepts (crlf-line "012 Cup" ++ alone) 1 0 0, refl) ∷ (accepts (cup ++ (13 ∷ 13 ∷ 10 ∷ alone)) 1 0 0, refl) ∷
     (refuses (crlf-line "012 Cup" ++ (10 ∷ alone)) 3 2 0, refl) ∷ (refuses (ascii "012 Cup\n") 3 1 0, refl) ∷ (refuses (ascii "012 Cup") 4 1 0, refl) ∷
@@ -181,144 +324,7 @@ guardRows =
     (accepts (cup ++ (person "   1" " 1.0" "   1" ((92, "0000 - U") ∷ []) ++ person "   2" " 1.0" "   2" ((102, "0000 - U") ∷ []))) 2 2 0, refl) ∷
     -- the number of rounds with no 142: by id, colour or result alone, of any player
     (accepts (cup ++ (person "   1" " 0.0" "   1" ((92, "0000 - Z") ∷ []) ++ person "   2" " 0.0" "   2" ((112, "0000") ∷ []))) 2 3 0, refl) ∷
-    (accepts (cup ++ (person "   1" " 0.0" "   1" ((187, "-") ∷ []) ++ person "   2" " 0.0" "   2" ((92, "0000 - Z") ∷ []))) 2 10 0, refl) ∷
-    -- ---- which results fit, from either side
-    (fitting (code "1") (ascii "0") (ascii "1=WDL+-HFUZ"), refl) ∷ (fitting (code "=") (ascii "=") (ascii "10WDL+-HFUZ"), refl) ∷
-    (fitting (code "0") (ascii "1") (ascii "=0WDL+-HFUZ"), refl) ∷ (fitting (code "W") (ascii "L") (ascii "1=0WD+-HFUZ"), refl) ∷
-    (fitting (code "D") (ascii "D") (ascii "1=0WL+-HFUZ"), refl) ∷ (fitting (code "L") (ascii "W") (ascii "1=0DL+-HFUZ"), refl) ∷
-    (fitting (code "+") (ascii "-") (ascii "1=0WDL+HFUZ"), refl) ∷ (fitting (code "-") (ascii "+-") (ascii "1=0WDLHFUZ"), refl) ∷
-    -- ---- what a result earns, over rounds and scorings
-    (accepts (two " 1.0" "   2 w +" " 0.0" "   1 b -") 2 1 0, refl) ∷
-    (accepts (cup ++ (line scoring ++ person "   1" " 6.2" "   1" ((92, "0000 - F  0000 - H  0000 - U  0000 - Z         Z") ∷ []))) 1 5 0, refl) ∷
-    (accepts (line scoring ++ two " 3.0" "   2 w W" " 0.2" "   1 b L") 2 1 0, refl) ∷ (accepts (line scoring ++ two " 3.0" "   2 w +" " 0.1" "   1 b -") 2 1 0, refl) ∷
-    (accepts (line scoring ++ two " 1.0" "   2 w =" " 1.0" "   1 b =") 2 1 0, refl) ∷ (accepts (line scoring ++ two " 1.0" "   2 w D" " 1.0" "   1 b D") 2 1 0, refl) ∷
-    (accepts (line scoring ++ two " 0.2" "   2 w 0" " 3.0" "   1 b 1") 2 1 0, refl) ∷
-    (accepts (cup ++ person "   1" " 2.5" "   1" ((92, "0000 - F  0000 - H  0000 - U  0000 - Z") ∷ [])) 1 4 0, refl) ∷
-    (refuses (cup ++ (line "162  W50.0" ++ person "   1" " 0.0" "   1" ((92, "0000 - F  0000 - F") ∷ []))) 16 3 0, refl) ∷
-    (refuses (two " 1.0" "   2 w 1" " 0.5" "   1 b 0") 16 3 0, refl) ∷
-    (accepts (cup ++ (line "250      05.0 001 001 0001 0001" ++ person "   1" " 0.0" "   1" ((92, "0000 - Z") ∷ []))) 1 1 1, refl) ∷
-    (scores (ascii scoring) (ascii "1") 30, refl) ∷ (scores (ascii scoring) (ascii "W") 30, refl) ∷ (scores (ascii scoring) (ascii "+") 30, refl) ∷
-    (scores (ascii scoring) (ascii "F") 30, refl) ∷ (scores (ascii scoring) (ascii "=") 10, refl) ∷ (scores (ascii scoring) (ascii "D") 10, refl) ∷
-    (scores (ascii scoring) (ascii "H") 10, refl) ∷ (scores (ascii scoring) (ascii "0") 2, refl) ∷ (scores (ascii scoring) (ascii "L") 2, refl) ∷
-    (scores (ascii scoring) (ascii "-") 1, refl) ∷ (scores (ascii scoring) (ascii "Z") 1, refl) ∷ (scores (ascii scoring) (ascii "U") 20, refl) ∷
-    (scores (ascii "162  X 0.7") (ascii "1W+F=DH0L-ZU") 65, refl) ∷ (scores (ascii scoring) (ascii "1W+F=DH0L-ZU") 176, refl) ∷
-    (refuses (cup ++ (alone ++ (person "   2" " 0.0" "   2" [] ++ person "   3" "10.0" "   3" []))) 16 4 0, refl) ∷
-    -- ---- the tables and the answer
-    (stores event
-    ((starts, 0, 12) ∷ (starts, 1, 7) ∷ (starts, 2, 0) ∷ (points, 0, 110) ∷ (points, 1, 0) ∷ (ranks, 0, 3) ∷ (ranks, 1, 1) ∷ (ranks, 2, 0) ∷
-    (kept, 0, code "m") ∷ (kept, 1, code "G") ∷ (kept, 5, code "R") ∷ (kept, 69, code "2") ∷ (kept, 70, 32) ∷ (kept, 139, 32) ∷ (kept, 140, 0) ∷
-    (opponents, 0, 7) ∷ (opponents, 1, 0) ∷ (opponents, 3, 0) ∷ (opponents, 20, 12) ∷ (opponents, 21, 0) ∷ (colours, 0, code "w") ∷ (colours, 1, code "-") ∷ (colours, 2, code "-") ∷ (colours, 3, 0) ∷
-    (colours, 20, code "b") ∷ (colours, 21, code "-") ∷ (colours, 22, code "-") ∷ (colours, 23, 0) ∷ (colours, 40, 0) ∷ (results, 0, code "1") ∷ (results, 1, code "U") ∷ (results, 2, code "Z") ∷ (results, 3, 0) ∷
-    (results, 20, code "0") ∷ (results, 21, code "Z") ∷ (results, 22, code "Z") ∷ (results, 23, 0) ∷
-    (text, 0, code "0") ∷ (text, 6, code "p") ∷ (text, 7, 13) ∷ (text, 8, code "0") ∷ (text, 12, code "x") ∷ (text, 13, 13) ∷ (text, 14, 0) ∷ (text-length, 0, 14) ∷
-    (added, 0, 5) ∷ (first-rounds, 0, 1) ∷ (last-rounds, 0, 2) ∷ (first-starts, 0, 7) ∷ (last-starts, 0, 9999) ∷ (added, 1, 10) ∷ (first-rounds, 1, 3) ∷ (last-rounds, 1, 3) ∷ (first-starts, 1, 1) ∷ (last-starts, 1, 1) ∷ (added, 2, 0) ∷ (last-starts, 31, 0) ∷
-    (lines, 0, 4) ∷ (lines, 1, 7) ∷ (lines, 2, 0) ∷ (lines, 199, 0) ∷ (lines, 200, 3) ∷ (lines, 201, 6) ∷ (lines, 202, 0) ∷ (lines, 231, 0) ∷
-    (initial-colour, 0, code "B") ∷ (value, 0, 100) ∷ (value, 1, 15) ∷ (value, 2, 0) ∷ (value, 3, 0) ∷ (value, 4, 10) ∷ (value, 5, 5) ∷ []), refl) ∷
-    (stores (cup ++ (line scoring ++ alone)) ((initial-colour, 0, 0) ∷ (value, 0, 30) ∷ (value, 1, 10) ∷ (value, 2, 2) ∷ (value, 3, 1) ∷ (value, 4, 20) ∷ (value, 5, 7) ∷ []), refl) ∷
-    (accepts event 2 3 2, refl) ∷ (answers event (0 ∷ 0 ∷ 0 ∷ 2 ∷ 3 ∷ 2 ∷ 14 ∷ code "B" ∷ 100 ∷ 15 ∷ 0 ∷ 0 ∷ 10 ∷ 5 ∷ []), refl) ∷
-    (answers (after []) (0 ∷ 0 ∷ 0 ∷ 1 ∷ 0 ∷ 0 ∷ 8 ∷ 0 ∷ 10 ∷ 5 ∷ 0 ∷ 0 ∷ 10 ∷ 5 ∷ []), refl) ∷
-    (answers (two " 1.0" "   2 w 1" " 0.0" "   1 w 0") (13 ∷ 2 ∷ 1 ∷ 0 ∷ 0 ∷ 0 ∷ 0 ∷ 0 ∷ 0 ∷ 0 ∷ 0 ∷ 0 ∷ 0 ∷ 0 ∷ []), refl) ∷
-    (stores highest ((starts, 0, 9999) ∷ (points, 0, 999) ∷ (ranks, 0, 9999) ∷ (added, 0, 999) ∷ (first-rounds, 0, 20) ∷ (last-rounds, 0, 20) ∷ (first-starts, 0, 9999) ∷ (added, 1, 105) ∷ (last-rounds, 1, 10) ∷ (first-starts, 1, 1005) ∷ (last-starts, 1, 1050) ∷
-        (value, 0, 999) ∷ (value, 1, 105) ∷ (value, 2, 200) ∷ (value, 3, 301) ∷ (value, 4, 402) ∷ (value, 5, 503) ∷ []), refl) ∷
-    (stores (cup ++ (line "162  X 0.7" ++ alone)) ((value, 0, 10) ∷ (value, 1, 5) ∷ (value, 2, 0) ∷ (value, 3, 0) ∷ (value, 4, 10) ∷ (value, 5, 7) ∷ []), refl) ∷
-    (stores (cup ++ (line "152 W" ++ alone)) ((initial-colour, 0, code "W") ∷ (value, 0, 10) ∷ (value, 1, 5) ∷ (value, 2, 0) ∷ (value, 3, 0) ∷ (value, 4, 10) ∷ (value, 5, 5) ∷ []), refl) ∷
-    -- ---- the writer: exact room, more room, one byte short, no room; and the highest numbers
-    (writes as-left event ((386, 0, eventWritten) ∷ (400, 0, eventWritten) ∷ (385, 19, []) ∷ (0, 19, []) ∷ []), refl) ∷
-    (writes as-left (two " 1.0" "   2 w +" " 0.0" "   1 b -" ++ line "142 020")
-        ((700, 0, cup ++ (line "142 20" ++ (line "162  W 1.0    D 0.5    L 0.0    A 0.0    P 1.0    X 0.5" ++
-        (person "   1" " 1.0" "   1" ((92, "   2 w +  0000 - Z  0000 - Z  0000 - Z  0000 - Z  0000 - Z  0000 - Z  0000 - Z  0000 - Z  0000 - Z  0000 - Z  0000 - Z  0000 - Z  0000 - Z  0000 - Z  0000 - Z  0000 - Z  0000 - Z  0000 - Z  0000 - Z") ∷ []) ++
-        person "   2" " 0.0" "   2" ((92, "   1 b -  0000 - Z  0000 - Z  0000 - Z  0000 - Z  0000 - Z  0000 - Z  0000 - Z  0000 - Z  0000 - Z  0000 - Z  0000 - Z  0000 - Z  0000 - Z  0000 - Z  0000 - Z  0000 - Z  0000 - Z  0000 - Z  0000 - Z") ∷ []))))) ∷ []), refl) ∷
-    (writes as-left highest ((234, 0, highest) ∷ []), refl) ∷
-    -- ---- the question
-    (asks as-left event ((0, 1, 0, 0, 5) ∷ (0, 2, 0, 100, 5) ∷ (0, 3, 0, 110, 0) ∷ (1, 1, 0, 0, 5) ∷ (1, 3, 0, 0, 0) ∷ (2, 1, 20, 0, 0) ∷ (9, 1, 20, 0, 0) ∷ (0, 0, 20, 0, 0) ∷ (1, 4, 20, 0, 0) ∷ (2, 0, 20, 0, 0) ∷ []), refl) ∷
-    (asks as-left accelerated ((0, 2, 0, 0, 0) ∷ (1, 1, 0, 0, 0) ∷ (1, 2, 0, 0, 125) ∷ (1, 3, 0, 0, 125) ∷ (1, 4, 0, 0, 0) ∷ (2, 3, 0, 0, 125) ∷ (3, 2, 0, 0, 0) ∷ (3, 5, 20, 0, 0) ∷ (4, 4, 20, 0, 0) ∷ []), refl) ∷
-    (asks as-left (after []) ((0, 1, 20, 0, 0) ∷ []), refl) ∷
-    -- ---- refused answers: 18, with room and without, at any place; tables that are too short: 1, whatever else is wrong
-    (writes as-left wrongSum ((700, 18, []) ∷ (0, 18, []) ∷ []), refl) ∷ (writes as-left [] ((700, 18, []) ∷ (0, 18, []) ∷ []), refl) ∷
-    (asks as-left wrongSum ((0, 1, 18, 0, 0) ∷ (2, 0, 18, 0, 0) ∷ []), refl) ∷ (asks as-left [] ((0, 1, 18, 0, 0) ∷ (0, 0, 18, 0, 0) ∷ []), refl) ∷
-    (writes cut-short sampleT ((700, 1, []) ∷ (0, 1, []) ∷ []), refl) ∷ (writes cut-short wrongSum ((700, 1, []) ∷ (0, 1, []) ∷ []), refl) ∷
-    (asks cut-short sampleT ((0, 1, 1, 0, 0) ∷ (2, 0, 1, 0, 0) ∷ []), refl) ∷ (asks cut-short wrongSum ((0, 1, 1, 0, 0) ∷ (2, 0, 1, 0, 0) ∷ []), refl) ∷
-    -- ---- rows of one line that spell an item
-    (spells (ascii ""), refl) ∷ (spells (ascii "   "), refl) ∷ (spells (ascii "### any"), refl) ∷ (spells (ascii "162  W 3.0    D 1.0"), refl) ∷
-    (spells (ascii "162  X10.5   "), refl) ∷ (spells (ascii "162  W 1.0    D 0.5    L 0.0    A 0.0    P 1.0    X 0.5    "), refl) ∷
-    (spells (ascii "250       1.0   1  20    1 9999"), refl) ∷ (spells (ascii "250      01.0 003 003 0090 0090  "), refl) ∷
-    (spells (ascii "250      99.9 020 020 9999 9999"), refl) ∷ (spells (ascii "142 0"), refl) ∷ (spells (ascii "142 007  "), refl) ∷ (spells (ascii "142 20"), refl) ∷
-    (spells (ascii "152 W"), refl) ∷ (spells (ascii "152 B   "), refl) ∷ (spells (ascii "012 Cup"), refl) ∷ (spells (ascii "022"), refl) ∷ (spells (ascii "022    "), refl) ∷
-    (spells (ascii "022 x"), refl) ∷ (spells (ascii "032 x"), refl) ∷ (spells (ascii "042 x"), refl) ∷ (spells (ascii "052 x"), refl) ∷ (spells (ascii "062 x"), refl) ∷
-    (spells (ascii "072 x"), refl) ∷ (spells (ascii "092 x"), refl) ∷ (spells (ascii "102 x"), refl) ∷ (spells (ascii "112 x"), refl) ∷ (spells (ascii "122 x"), refl) ∷
-    (spells (ascii "132 x"), refl) ∷ (spells (ascii "192 x"), refl) ∷ (spells (ascii "202 x"), refl) ∷ (spells (ascii "212 x"), refl) ∷ (spells (ascii "222 x"), refl) ∷
-    (spells (ascii "162  D99.9    L10.0"), refl) ∷ (spells (ascii "162  A 0.0    P 0.0    X 0.0"), refl) ∷ (spells (ascii "112"), refl) ∷
-    -- ---- and that spell none
-    (spells-nothing (ascii "162"), refl) ∷ (spells-nothing (ascii "162  W 1.0    W 1.0"), refl) ∷ (spells-nothing (ascii "162           D 0.5"), refl) ∷
-    (spells-nothing (ascii "162  W 1.0             L 0.0"), refl) ∷ (spells-nothing (ascii "162  W 1.0 x"), refl) ∷ (spells-nothing (ascii "162  w 1.0"), refl) ∷
-    (spells-nothing (ascii "162 W 1.0"), refl) ∷ (spells-nothing (ascii "162 xW 1.0"), refl) ∷ (spells-nothing (ascii "162x W 1.0"), refl) ∷
-    (spells-nothing (ascii "162  W  .5"), refl) ∷ (spells-nothing (ascii "162  W 1,0"), refl) ∷ (spells-nothing (ascii "162  Y 1.0"), refl) ∷
-    (spells-nothing (ascii "162  W 1.0    D 0.5    L 0.0    A 0.0    P 1.0    X 0.5    W 1.0"), refl) ∷
-    (spells-nothing (ascii "162  W 1.0    D 0.5    L 0.0    A 0.0    P 1.0    X 0.5x"), refl) ∷ (spells-nothing (ascii "250      00.0 001 003 0001 0090"), refl) ∷
-    (spells-nothing (ascii "250      01.0 004 003 0001 0090"), refl) ∷ (spells-nothing (ascii "250      01.0 001 021 0001 0090"), refl) ∷
-    (spells-nothing (ascii "250      01.0 021 021 0001 0090"), refl) ∷ (spells-nothing (ascii "250      01.0 000 003 0001 0090"), refl) ∷
-    (spells-nothing (ascii "250      01.0 001 003 0091 0090"), refl) ∷ (spells-nothing (ascii "250      01.0 001 003 0000 0090"), refl) ∷
-    (spells-nothing (ascii "250 0001 01.0 001 003 0001 0090"), refl) ∷ (spells-nothing (ascii "250x     01.0 001 003 0001 0090"), refl) ∷
-    (spells-nothing (ascii "250      01.0 001 003 0001 0090 x"), refl) ∷ (spells-nothing (ascii "250      01.0 001 003 0001     "), refl) ∷
-    (spells-nothing (ascii "250      01.0x001 003 0001 0090"), refl) ∷ (spells-nothing (ascii "250      01.0 001x003 0001 0090"), refl) ∷
-    (spells-nothing (ascii "250      01.0 001 003x0001 0090"), refl) ∷ (spells-nothing (ascii "250      01.0 001 003 0001x0090"), refl) ∷
-    (spells-nothing (ascii "250     x01.0 001 003 0001 0090"), refl) ∷ (spells-nothing (ascii "250      01.0 1   003 0001 0090"), refl) ∷
-    (spells-nothing (ascii "142 "), refl) ∷ (spells-nothing (ascii "142 21"), refl) ∷ (spells-nothing (ascii "142  3"), refl) ∷ (spells-nothing (ascii "142 0003"), refl) ∷
-    (spells-nothing (ascii "142 3 4"), refl) ∷ (spells-nothing (ascii "142x3"), refl) ∷ (spells-nothing (ascii "142 x"), refl) ∷ (spells-nothing (ascii "152 w"), refl) ∷
-    (spells-nothing (ascii "152  W"), refl) ∷ (spells-nothing (ascii "152 WB"), refl) ∷ (spells-nothing (ascii "152xW"), refl) ∷ (spells-nothing (ascii "152"), refl) ∷
-    (spells-nothing (ascii "012"), refl) ∷ (spells-nothing (ascii "012   "), refl) ∷ (spells-nothing (ascii "012xCup"), refl) ∷ (spells-nothing (ascii "022x"), refl) ∷
-    (spells-nothing (ascii "013 Team"), refl) ∷ (spells-nothing (ascii "01"), refl) ∷ (spells-nothing (ascii "082 x"), refl) ∷ (spells-nothing (ascii "172 x"), refl) ∷
-    (spells-nothing (ascii "352 x"), refl) ∷ (spells-nothing (ascii "362 x"), refl) ∷ (spells-nothing (ascii "142"), refl) ∷ (spells-nothing (ascii "162  W 1. "), refl) ∷
-    (spells-nothing (ascii "162  Wx1.0"), refl) ∷ (spells-nothing (ascii "162  W 1.0    Dx"), refl) ∷ (spells-nothing (ascii "162  W  1.0"), refl) ∷
-    (spells-nothing (ascii "162  A 1.0    A 1.0"), refl) ∷ (spells-nothing (ascii "162  W 1:0"), refl) ∷ (spells-nothing (ascii "250      01.0 001 003 0001 0000"), refl) ∷
-    (spells-nothing (ascii "250         0 001 003 0001 0090"), refl) ∷ (spells-nothing (ascii "250      01.0     003 0001 0090"), refl) ∷
-    (spells-nothing (ascii "250      01.0 001     0001 0090"), refl) ∷ (spells-nothing (ascii "250      01.0 001 003      0090"), refl) ∷
-    (spells-nothing (ascii "142 1x"), refl) ∷ (spells-nothing (ascii "142 /"), refl) ∷ (spells-nothing (ascii "142 :"), refl) ∷ (spells-nothing (ascii "152 X"), refl) ∷
-    (spells-nothing (ascii "152 b"), refl) ∷ (spells-nothing (ascii "152 W x"), refl) ∷ (spells-nothing (ascii "## 4"), refl) ∷ (spells-nothing (ascii "001"), refl) ∷
-    -- ---- 001: the kept columns and the others
-    (spells (rowWith []), refl) ∷ (spells (rowWith ((92, "9999 b -") ∷ [])), refl) ∷ (spells (rowWith ((282, "0000 - z") ∷ [])), refl) ∷ (spells (keptRow 10 "m"), refl) ∷
-    (spells (keptRow 10 "w"), refl) ∷ (spells-nothing (keptRow 10 "M"), refl) ∷ (spells-nothing (keptRow 10 "f"), refl) ∷ (spells (keptRow 11 "GM"), refl) ∷
-    (spells (keptRow 11 "IM"), refl) ∷ (spells (keptRow 11 "WGM"), refl) ∷ (spells (keptRow 11 "FM"), refl) ∷ (spells (keptRow 11 "WIM"), refl) ∷
-    (spells (keptRow 11 "CM"), refl) ∷ (spells (keptRow 11 "WFM"), refl) ∷ (spells (keptRow 11 "WCM"), refl) ∷ (spells-nothing (keptRow 12 "GM"), refl) ∷
-    (spells-nothing (keptRow 11 "gm"), refl) ∷ (spells-nothing (keptRow 11 "KM"), refl) ∷ (spells (keptRow 15 "012345678901234567890123456789012"), refl) ∷
-    (spells-nothing (keptRow 15 "0123456789012345678901234567890123"), refl) ∷ (spells-nothing (keptRow 14 "x"), refl) ∷ (spells (keptRow 49 "   0"), refl) ∷
-    (spells (keptRow 49 "0000"), refl) ∷ (spells (keptRow 52 "7"), refl) ∷ (spells-nothing (keptRow 49 "24 1"), refl) ∷ (spells-nothing (keptRow 49 "240 "), refl) ∷
-    (spells-nothing (keptRow 53 "x"), refl) ∷ (spells (keptRow 54 "xyz"), refl) ∷ (spells-nothing (keptRow 57 "x"), refl) ∷ (spells (keptRow 58 "x y z x y z"), refl) ∷
-    (spells-nothing (keptRow 69 "x"), refl) ∷ (spells (keptRow 70 "0000/99/00"), refl) ∷ (spells-nothing (keptRow 70 "1990-01-01"), refl) ∷
-    (spells-nothing (keptRow 70 "1990/1/01 "), refl) ∷ (spells-nothing (keptRow 70 "1990"), refl) ∷ (spells-nothing (keptRow 80 "x"), refl) ∷
-    (spells-nothing (put 1 ((1, "001") ∷ (5, "   0") ∷ (81, " 0.0") ∷ (86, "   1") ∷ [])), refl) ∷
-    (spells (put 1 ((1, "001") ∷ (5, "9999") ∷ (81, "99.9") ∷ (86, "9999") ∷ [])), refl) ∷
-    (spells-nothing (put 1 ((1, "001") ∷ (5, "   1") ∷ (81, " 0.0") ∷ (86, "   0") ∷ [])), refl) ∷
-    (spells-nothing (put 1 ((1, "001") ∷ (5, "   1") ∷ (81, " 0.0") ∷ [])), refl) ∷ (spells-nothing (put 1 ((1, "001") ∷ (5, "   1") ∷ (86, "   1") ∷ [])), refl) ∷
-    (spells-nothing (put 1 ((1, "001") ∷ (81, " 0.0") ∷ (86, "   1") ∷ [])), refl) ∷
-    (spells-nothing (put 1 ((1, "001x") ∷ (5, "   1") ∷ (81, " 0.0") ∷ (86, "   1") ∷ [])), refl) ∷
-    (spells-nothing (put 1 ((1, "001") ∷ (5, "   1") ∷ (9, "x") ∷ (81, " 0.0") ∷ (86, "   1") ∷ [])), refl) ∷
-    (spells-nothing (put 1 ((1, "001") ∷ (5, "   1") ∷ (81, " 0.0") ∷ (85, "x") ∷ (86, "   1") ∷ [])), refl) ∷ (spells-nothing (rowWith ((90, "x") ∷ [])), refl) ∷
-    (spells-nothing (rowWith ((91, "x") ∷ [])), refl) ∷ (spells-nothing (rowWith ((96, "x") ∷ [])), refl) ∷ (spells-nothing (rowWith ((98, "x") ∷ [])), refl) ∷
-    (spells-nothing (rowWith ((100, "x") ∷ [])), refl) ∷ (spells-nothing (rowWith ((281, "x") ∷ [])), refl) ∷ (spells-nothing (rowWith ((288, "x") ∷ [])), refl) ∷
-    (spells-nothing (rowWith ((290, "x") ∷ [])), refl) ∷ (spells-nothing (rowWith ((299, "x") ∷ [])), refl) ∷ (spells-nothing (rowWith ((92, " x  ") ∷ [])), refl) ∷
-    (spells-nothing (rowWith ((97, "W") ∷ [])), refl) ∷ (spells-nothing (rowWith ((97, "B") ∷ [])), refl) ∷ (spells-nothing (rowWith ((99, "?") ∷ [])), refl) ∷
-    (spells-nothing (rowWith ((99, "A") ∷ [])), refl) ∷ (spells-nothing (rowWith ((289, "2") ∷ [])), refl) ∷ (spells-nothing (keptRow 11 "NM"), refl) ∷
-    (spells-nothing (keptRow 11 "WNM"), refl) ∷ (spells-nothing (keptRow 11 "G"), refl) ∷ (spells-nothing (keptRow 11 "wgm"), refl) ∷
-    (spells-nothing (keptRow 11 "MG"), refl) ∷
-    -- nine blanks and a byte; and each place of a date
-    (spells-nothing (keptRow 79 "x"), refl) ∷ (spells-nothing (keptRow 79 "1"), refl) ∷ (spells-nothing (keptRow 70 "x"), refl) ∷
-    (spells-nothing (keptRow 70 "x990/01/02"), refl) ∷ (spells-nothing (keptRow 70 "1x90/01/02"), refl) ∷ (spells-nothing (keptRow 70 "19x0/01/02"), refl) ∷
-    (spells-nothing (keptRow 70 "199x/01/02"), refl) ∷ (spells-nothing (keptRow 70 "1990x01/02"), refl) ∷ (spells-nothing (keptRow 70 "1990/x1/02"), refl) ∷
-    (spells-nothing (keptRow 70 "1990/0x/02"), refl) ∷ (spells-nothing (keptRow 70 "1990/01x02"), refl) ∷ (spells-nothing (keptRow 70 "1990/01/x2"), refl) ∷
-    (spells-nothing (keptRow 70 "1990/01/0x"), refl) ∷ (spells (keptRow 70 "9999/99/99"), refl) ∷
-    -- digits end at 0 and 9; points and numbers in every column
-    (spells-nothing (keptRow 49 "240/"), refl) ∷ (spells-nothing (keptRow 49 "240:"), refl) ∷ (spells-nothing (keptRow 49 "x401"), refl) ∷
-    (spells-nothing (rowOfTexts ((5, "1   ") ∷ (81, " 0.0") ∷ (86, "   1") ∷ [])), refl) ∷
-    (spells-nothing (rowOfTexts ((5, "  1x") ∷ (81, " 0.0") ∷ (86, "   1") ∷ [])), refl) ∷
-    (spells-nothing (rowOfTexts ((5, "   1") ∷ (81, "x0.0") ∷ (86, "   1") ∷ [])), refl) ∷
-    (spells-nothing (rowOfTexts ((5, "   1") ∷ (81, " 0. ") ∷ (86, "   1") ∷ [])), refl) ∷
-    (spells-nothing (rowOfTexts ((5, "   1") ∷ (81, "  .0") ∷ (86, "   1") ∷ [])), refl) ∷
-    (spells-nothing (rowOfTexts ((5, "   1") ∷ (81, " 0,0") ∷ (86, "   1") ∷ [])), refl) ∷
-    (spells-nothing (rowOfTexts ((5, "   1") ∷ (81, " 0.0") ∷ (86, "1   ") ∷ [])), refl) ∷
-    (spells-nothing (rowOfTexts ((5, "   1") ∷ (81, " 0.0") ∷ (86, "   :") ∷ [])), refl) ∷
-    -- every colour and result, capital and small, is a byte of a round
-    (spells (rowWith ((92, "0000 w 1  0000 b =  0000 - 0  0000   W  0000   D  0000   L  0000   +  0000   -  0000   H  0000   F  0000   U  0000   Z  0000   w  0000   d  0000   l  0000   h  0000   f  0000   u  0000   z") ∷ [])), refl) ∷ []
+    (accepts (cup ++ (person "   1" " 0.0" "   1" ((187, "-") ∷ []) ++ person "   2" " 0.0" "   2" ((92, "0000 - Z") ∷ []))) 2 10 0, refl) ∷ []
 
 pub guarded : AllOf (λ (c : Computed). RowHolds (c .0)) guardRows
 guarded = all-computed guardRows

@@ -29,9 +29,7 @@ use Rattle.law.proofs.Judges.{outcomeOf, is-judged}
 use Rattle.law.proofs.ReadsOnce.{reads-some}
 use Rattle.law.proofs.Replies.{writeOf, askOf, bytesOf, spelledBy}
 use Rattle.law.proofs.RepliesRight.{IsReadingOf, writes-as, asks-as, writes-some, asks-some, short-unread, left-is}
-
 use Rattle.law.proofs.Rows.{cellIn, cellsIn, cellOfTournament, LentAs, as-left, cut-short, Counts, Refuses, Always, HoldsCells, Lends, Wrote, Replied, WritesSo, AsksSo, Fit, asEntry, partsOf, answerIn, isRefused, isAccepted, isScored, areStored, isWhole, readingIn, isWrote, isWritten, isReplied, isAsked, ofLent, OfLent, Output, Question, doFit, doNotFit, Computed}
-
 -- the rows themselves, for those who state some
 pub use Rattle.law.proofs.Rows.{Table, starts, points, ranks, kept, opponents, colours, results, text, lines, added, first-rounds, last-rounds, first-starts, last-starts, text-length, initial-colour, value, Row, refuses, accepts, answers, scores, stores, writes, asks, fitting, spells, spells-nothing}
 unfoldable pub use Rattle.law.proofs.Rows.{RowHolds, test}

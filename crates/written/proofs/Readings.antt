@@ -25,7 +25,6 @@ use Rattle.law.specs.Calls.{Reading, Denial, denialOf, NoReading, writerEnd, Wr
 use Rattle.law.proofs.ReadsOnce.{lent-enough}
 use Rattle.written.proofs.Spelled.{written-spells}
 use Rattle.written.proofs.Lengths.{written-accepted}
-
 -- what needs no writer
 pub use Rattle.law.proofs.Readings.{Has, Read, accepted-read, reading-has, one-reading}
 
