@@ -420,32 +420,30 @@ CHANGES = [
     ("proofs/Replies", "askBy o place round (some d) = scoreAnswer (denialOf d) 0 0", "askBy o place round (some d) = scoreAnswer (denialOf d) 0 1"),
 ]
 
-# ---- what may refuse a change beside a row: the theorems of docs/STATEMENT.md, by module. Each says something that the change makes false.
+# ---- what may refuse a change beside a row: the theorems of docs/STATEMENT.md, by module. Each says something that the change makes false. An error in a part of its
+# proof that stands in the theorem's own module is the theorem's; one in a module below it is not, since a proof's shape breaks there first.
 THEOREMS = {
-    # every relation is decided by its function, which the rows compute: a relation that is changed alone is not decided any more
-    "FieldsRead": {"number", "number-or-blank", "points", "leading", "trimmed"},
-    "RecordsRead": {"text-line", "rounds-line", "colour-line", "value", "scoring-line", "acceleration-line", "kept-columns", "slot", "player-line", "item"},
-    "Cut": {"lines-are", "lines-unique", "cut-complete"},
-    "Faults": {"faults", "lines-spelled"},
-    "RepliesRight": {"writer-tests", "question-tests", "writes-as", "asks-as", "writes-some", "asks-some", "left-is"},
-    "LawfulTested": {"file", "lawful"},
-    # accepted exactly when lawful, one tournament a file, one answer and content an input
-    "Accepts": {"no-fault-lawful", "lawful-no-fault", "one-tournament", "tested-file"},
-    "LinesRead": {"lines-good", "good-lines"},
-    "NewAndFew": {"few-fits", "fits-few", "new-once", "once-new"},
-    "Judges": {"judged", "is-judged", "accepted-lawful", "lawful-accepted", "refused-exactly"},
-    "ReadsOnce": {"reads-once", "reads-some", "reads-lawful"},
-    "TwoReadings": {"one-tournament-a-reading", "same-lines"},
-    "Readings": {"refused-not-0", "reading-has", "one-reading"},
-    # the limits by their numerals, and what every row says of every cell
-    "Edges": {"sizes", "line-cells", "as-many", "too-big-refused", "small-not-too-big", "players-full", "players-room", "accelerations-full", "accelerations-room", "text-full", "text-room", "short-untouched"},
-    "Samples": {"cleared-cell", "refused-says", "accepted-says", "holds-cell"},
-    "Heads": {"rounds-spelled", "colour-spelled", "scoring-spelled", "acceleration-spelled"},
-    "Spelled": {"written-spells"},
-    "Lengths": {"written-long", "written-accepted"},
+    # accepted exactly when lawful, one tournament a file, one answer and content an input, two tournaments two readings
+    "Accepts": ("lawful-no-fault", "no-fault-lawful", "one-tournament"),
+    "Judges": ("judged", "is-judged", "accepted-lawful", "lawful-accepted", "refused-exactly"),
+    "ReadsOnce": ("reads-once", "reads-some", "reads-lawful"),
+    "TwoReadings": ("one-tournament-a-reading", "same-lines"),
+    "Readings": ("reading-has", "one-reading"),
+    # what is left for writer and question, and what they then answer
+    "RepliesRight": ("left-is", "writes-as", "asks-as", "writes-some", "asks-some"),
+    # the limits by their numerals, and what a row says of every cell
+    "Edges": ("sizes", "line-cells", "as-many", "too-big-refused", "small-not-too-big", "players-full", "players-room", "accelerations-full", "accelerations-room", "text-full", "text-room", "short-untouched"),
+    "Samples": ("cleared-cell", "holds-cell"),
+    # each relation is decided by its function, which the rows compute: a relation that is changed alone is not decided any more
+    "Cut": ("lines-are", "lines-unique"),
+    "FieldsRead": ("number", "number-or-blank", "points", "leading", "trimmed"),
+    "RecordsRead": ("text-line", "rounds-line", "colour-line", "value", "scoring-line", "acceleration-line", "kept-columns", "slot", "player-line", "item"),
+    "Faults": ("faults", "lines-spelled"),
 }
-# a theorem is proved by parts that stand in its own module: an error in one of these is the theorem's
-BY_PARTS = {"FieldsRead", "RecordsRead", "Cut", "Faults", "RepliesRight", "LawfulTested"}
+# of the crate written: whatever breaks in it is a part of these
+WRITTEN = ("written-spells", "written-long", "written-accepted")
+# has tests of its own for what the theorems above say, and no row computes them
+LEFT_OUT = "LawfulTested"
 
 
 def lawful_conjuncts():
@@ -462,33 +460,37 @@ class Errors:
 
     def __init__(self, out):
         self.proved = out.rstrip().split("\n")[-1].startswith("logic=proved")
-        self.rows, self.own, self.follows, name = [], [], {}, None
+        self.rows, self.own, self.follows, name = [], [], [], None
         for line in out.split("\n"):
             m = re.match(r".*crates/\w+/(?:specs|proofs)/(\w+)\.antt:(\d+):\d+: error: (?:`([^`]+)`: )?(.*)", line)
             if m:
                 module, number, name, what = m.groups()
                 n = re.match(r"`([^`]+)` was not admitted", what)
                 if n:
-                    self.follows.setdefault((module, n.group(1)), []).append(name)
+                    self.follows.append((module, n.group(1), name))
                 else:
                     self.own.append((module, name or "line " + number))
             r = re.search(r"test \((.*)\) ≡ (?:mathlib\.Core\.Bool\.)?true", line)
             if r and name in ("guardRows", "computed") and r.group(1) not in self.rows:
                 self.rows.append(r.group(1))
 
-    def theorem(self):
+    def reached(self, module, name, wanted):
+        """The first wanted name that an error in this one reaches, by parts of one module, or of any if none is given."""
+        seen, todo = set(), [name]
+        while todo:
+            x = todo.pop(0)
+            if x in wanted:
+                return x
+            seen.add(x)
+            todo += [y for m, needed, y in self.follows if needed == x and y not in seen and module in (None, m)]
+
+    def theorems(self, crate):
+        found = []
         for module, name in self.own:
-            if name in THEOREMS.get(module, ()):
-                return name
-        for module, name in self.own:
-            seen, todo = set(), [name] if module in BY_PARTS else []
-            while todo:
-                x = todo.pop(0)
-                if x in THEOREMS[module]:
-                    return "%s (%s)" % (x, name)
-                seen.add(x)
-                todo += [y for y in self.follows.get((module, x), []) if y not in seen]
-        return None
+            t = self.reached(None, name, WRITTEN) if crate == "written" else self.reached(module, name, THEOREMS.get(module, ()))
+            if t and t not in found:
+                found.append(t)
+        return ", ".join(found)
 
 
 def said(room, crate):
@@ -505,6 +507,10 @@ def workers(n):
         os.makedirs(room, exist_ok=True)
         for crate in KEEP:
             shutil.copytree(os.path.join(ROOT, "crates", crate), os.path.join(room, "crates", crate))
+        modules = os.path.join(room, "crates/law/proofs/Lib.antt")
+        kept = [l for l in open(modules) if LEFT_OUT not in l]
+        open(modules, "w").writelines(kept)
+        os.remove(os.path.join(room, "crates/law/proofs", LEFT_OUT + ".antt"))
         lines = open(os.path.join(ROOT, "crates.txt")).read().split("\n")
         open(os.path.join(room, "crates.txt"), "w").write("\n".join(l for l in lines if l.split(":")[0] in KEEP) + "\n")
         if not said(room, "law").proved:
@@ -520,13 +526,13 @@ def judge(room, name):
         return "refused", "row " + law.rows[0]
     if name.startswith("proofs/"):
         return "NO ROW", "%s %s" % law.own[0] if law.own else ""
-    if law.theorem():
-        return "refused", "theorem " + law.theorem()
+    if law.theorems("law"):
+        return "refused", "theorem " + law.theorems("law")
     if not law.proved:
         return "SHAPE", "%s %s" % law.own[0] if law.own else "?"
     written = said(room, "written")
-    if written.theorem():
-        return "refused", "theorem " + written.theorem()
+    if written.theorems("written"):
+        return "refused", "theorem " + written.theorems("written")
     return ("SURVIVES", "") if written.proved else ("SHAPE", "%s %s" % written.own[0] if written.own else "?")
 
 
