@@ -446,13 +446,24 @@ WRITTEN = ("written-spells", "written-long", "written-accepted")
 LEFT_OUT = "LawfulTested"
 
 
+def field_end(text, at):
+    """Where the value of a record's field ends: at its semicolon, past the records inside it."""
+    deep = 0
+    while deep or text[at] != ";":
+        deep += {"{": 1, "}": -1}.get(text[at], 0)
+        at += 1
+    return at
+
+
 def lawful_conjuncts():
-    """Each conjunct of Lawful, and of a player's part of it, dropped."""
+    """Each conjunct of Lawful, and of its parts, dropped; and no longer proved where the record is made, so that only what needs it can fail."""
     text = open(os.path.join(ROOT, "crates/law/specs/Lawful.antt")).read()
-    for name in ("KeptLine (line", "LawfulPlayer (R", "Lawful (t"):
+    for name, module, maker in (("KeptLine (line", "LinesLawful", "\nkept-line row"), ("LawfulPlayer (R", "LinesLawful", "\nlawful-player R"), ("Lawful (t", "Accepts", "Lawful (tournamentOf is)")):
         record = text[text.index("pub record " + name):]
+        proof = open(os.path.join(ROOT, "crates/law/proofs", module + ".antt")).read()
         for m in re.finditer(r"  pub (\S+) : (.*)\n", record[:(record + "\n\n").index("\n\n") + 1]):
-            yield ("Lawful", m.group(0), "  pub %s : Unit {0}\n" % m.group(1))
+            at = re.compile(r"(?<=\s)%s =" % m.group(1)).search(proof, proof.index(maker)).end()
+            yield ("Lawful", m.group(0), "  pub %s : Unit {0}\n" % m.group(1), ("proofs/" + module, proof[:at], " tt", proof[field_end(proof, at):]))
 
 
 class Errors:
@@ -545,22 +556,28 @@ def main():
     rooms, bad = workers(args.jobs), 0
 
     def tried(change):
-        name, old, new = change
+        name, old, new = change[:3]
         room = rooms.get()
-        path = os.path.join(room, "crates/law", (name if "/" in name else "specs/" + name) + ".antt")
-        text = open(path).read()
+        edits = [(name, old, new)]
+        if len(change) > 3:
+            module, before, made, after = change[3]
+            edits.append((module, None, before + made + after))
+        paths = [os.path.join(room, "crates/law", (n if "/" in n else "specs/" + n) + ".antt") for n, _, _ in edits]
+        texts = [open(path).read() for path in paths]
         try:
-            if text.count(old) != 1:
-                return "NOT ONE PLACE", change, str(text.count(old))
-            open(path, "w").write(text.replace(old, new))
+            if texts[0].count(old) != 1:
+                return "NOT ONE PLACE", change, str(texts[0].count(old))
+            for path, text, (_, was, now) in zip(paths, texts, edits):
+                open(path, "w").write(now if was is None else text.replace(was, now))
             verdict, where = judge(room, name)
             return verdict, change, where
         finally:
-            open(path, "w").write(text)
+            for path, text in zip(paths, texts):
+                open(path, "w").write(text)
             rooms.put(room)
 
     with ThreadPoolExecutor(args.jobs) as pool:
-        for verdict, (name, old, new), where in pool.map(tried, changes):
+        for verdict, (name, old, new, *_), where in pool.map(tried, changes):
             if verdict != "refused":
                 bad += 1
             print("%-13s %-19s %-60s %s" % (verdict, name, new.replace("\n", " ").strip()[:60], where[:110]), flush=True)
