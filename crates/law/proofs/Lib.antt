@@ -17,6 +17,7 @@ pub mod RepliesRight
 pub mod Rows
 pub mod Samples
 pub mod Marked
-pub mod Guards
+pub mod Layouts
+pub mod Watched
 pub mod Edges
 pub mod LawfulTested

@@ -1,0 +1,1 @@
+// Proofs alone: rows, each of which guards a rule of the statement that no theorem guards. No function.
