@@ -5,16 +5,14 @@ use mathlib.Core.Option.{Option, none, some}
 use mathlib.Core.List.{List, [], _∷_, _++_}
 use Prim.Native.Nat.{ℕ, zero, suc, _≤_, _<_}
 use native.Mathlib.Omega.{arith}
-use native.Mathlib.Decide.{ℕ-discrete, decLt, decLe}
+use native.Mathlib.Decide.{ℕ-discrete, decLt}
 use lib.Dec.{eqb, leb, ltb}
 use lib.ListN.{length, getD, drop}
 use borrow.Author.Tests.{lt-ltb, ltb-true}
 use Rattle.kit.specs.Lists.{between, all, same}
-use Rattle.kit.specs.First.{FirstIn}
 use Rattle.kit.specs.Decides.{isSome}
 use Rattle.kit.specs.Table.{Holds}
 use Rattle.kit.proofs.Bools.{clash, and, both, within, same-is, is-same, all-append}
-use Rattle.kit.proofs.Tables.{filled, filled-holds}
 use Rattle.types.specs.declared.Acceleration.{Acceleration}
 use Rattle.types.specs.declared.Answer.{Answer}
 use Rattle.types.specs.declared.Written.{Written}
@@ -27,15 +25,15 @@ use Rattle.law.specs.Tournament.{Tournament}
 use Rattle.law.specs.Lawful.{Lawful, noAcceleration}
 use Rattle.law.specs.Spelling.{isSound, SpellsFile}
 use Rattle.law.specs.Tables.{Tables, keptCells, entryCells, enough, Content, contentOf, HoldAll, answerOf}
-use Rattle.law.specs.Refusals.{noRefusal}
-use Rattle.law.specs.Writing.{written, earnedBefore, accelerationFor}
-use Rattle.law.specs.Calls.{Reading, Denial, tables-short, no-reading, out-short, no-place, denialOf, NoReading, writerEnd, OutShort, WriterDenies, writerDenials, writtenAnswer, Writes, write-refused, write-done, NoPlace, QuestionDenies, questionDenials, scoreAnswer, Asks, ask-refused, ask-done}
+use Rattle.law.specs.Writing.{written}
+use Rattle.law.specs.Calls.{Reading, NoReading, writerEnd, Writes, Asks}
 use Rattle.law.proofs.Accepts.{one-tournament}
+use Rattle.law.proofs.RepliesRight as replies
+use Rattle.law.proofs.RepliesRight.{IsReadingOf, short-unread}
 use Rattle.law.proofs.LawfulTested.{spelledBy, file, isLawful, lawful}
 use Rattle.written.proofs.Spelled.{written-spells}
 use Rattle.written.proofs.Lengths.{written-long}
-use Rattle.written.proofs.Readings.{Has, has-reading, no-reading as unread, one-reading}
-use Rattle.demands.proofs.OfWritings.{short-first, unread-first, last-first}
+use Rattle.written.proofs.Readings.{Has, has-reading, no-reading as unread}
 
 -- ---- decisions put together
 dec-both : {A B : Type 0} → Dec A → Dec B → Dec (A × B)
@@ -246,77 +244,20 @@ module _ (a : Answer) (t : Tables) (long : enough t ≡ true) where
           let s = written-spells writerEnd u l in
           n (record { list = written writerEnd u; short = written-long u l; small = spelled-small (written writerEnd u) u s; holds = record { u = u; spells = s; had = record { lawful-is = l; has = h } } })))
 
--- ---- the writer
+-- ---- so an answer and tables are a reading of some tournament, or of none, and `law` answers either
+read-or-not : (a : Answer) (t : Tables) → (o : Option Tournament) × IsReadingOf a t o
+read-or-not a t = go (enough t) refl
+  where
+    go : (b : Bool) → enough t ≡ b → (o : Option Tournament) × IsReadingOf a t o
+    go false e = (none, short-unread a t e)
+    go true e = by (whether a t e)
+      where
+        by : Whether a t e → (o : Option Tournament) × IsReadingOf a t o
+        by (no-reading-of n) = (none, n)
+        by (reading-of u r) = (some u, (written writerEnd u, r))
+
 pub writes-some : (a : Answer) (t : Tables) (before : List ℕ) → (w : Written) × (after : List ℕ) × Writes a t before w after
-writes-some a t before = go (enough t) refl
-  where
-    denied : (d : Denial) → FirstIn (WriterDenies a t (length before)) writerDenials d → (w : Written) × (after : List ℕ) × Writes a t before w after
-    denied d f = (writtenAnswer (denialOf d) 0, before, write-refused (record { denial = d; first = f; says = refl; untouched = refl }))
+writes-some a t before = let r = read-or-not a t in replies.writes-some a t (r .0) (r .1) before
 
-    go : (b : Bool) → enough t ≡ b → (w : Written) × (after : List ℕ) × Writes a t before w after
-    go false e = denied tables-short (short-first (WriterDenies a t (length before)) out-short e)
-    go true e = by (whether a t e)
-      where
-        long : enough t ≡ false → ⊥
-        long f = clash (sym f ∙ e)
-
-        by : Whether a t e → (w : Written) × (after : List ℕ) × Writes a t before w after
-        by (no-reading-of n) = denied no-reading (unread-first (WriterDenies a t (length before)) out-short long n)
-        by (reading-of u r) = room (decLt (length before) (length (written writerEnd u)))
-          where
-            read : NoReading a t → ⊥
-            read n = n (written writerEnd u) u r
-
-            room : Dec (length before < length (written writerEnd u)) → (w : Written) × (after : List ℕ) × Writes a t before w after
-            room (yes l) = denied out-short (last-first (WriterDenies a t (length before)) out-short long read (record { file = written writerEnd u; t = u; reading = r; short = l }))
-            room (no l) =
-                let n = length (written writerEnd u) in
-                let at : ℕ → ℕ = λ i. getD (written writerEnd u) i 0 in (
-                  writtenAnswer noRefusal n,
-                  filled 0 n at before,
-                  write-done
-                      (record {
-                        no-denial = (long, (read, (fits, tt)));
-                        file = written writerEnd u;
-                        t = u;
-                        reading = r;
-                        says = refl;
-                        bytes = filled-holds 0 n at before (omega arith);
-                      }),
-                )
-              where
-                fits : OutShort a t (length before) → ⊥
-                fits s = l (subst (λ (v : Tournament). length before < length (written writerEnd v)) (one-reading a t (s .file) (written writerEnd u) (s .t) u (s .reading) r) (s .short))
-
--- ---- the question
 pub asks-some : (a : Answer) (t : Tables) (place : Place) (round : ℕ) → (s : Score) × Asks a t place round s
-asks-some a t place round = go (enough t) refl
-  where
-    denied : (d : Denial) → FirstIn (QuestionDenies a t (place .0) round) questionDenials d → (s : Score) × Asks a t place round s
-    denied d f = (scoreAnswer (denialOf d) 0 0, ask-refused (record { denial = d; first = f; says = refl }))
-
-    go : (b : Bool) → enough t ≡ b → (s : Score) × Asks a t place round s
-    go false e = denied tables-short (short-first (QuestionDenies a t (place .0) round) no-place e)
-    go true e = by (whether a t e)
-      where
-        long : enough t ≡ false → ⊥
-        long f = clash (sym f ∙ e)
-
-        by : Whether a t e → (s : Score) × Asks a t place round s
-        by (no-reading-of n) = denied no-reading (unread-first (QuestionDenies a t (place .0) round) no-place long n)
-        by (reading-of u r) = seat (dec-both (decLt (place .0) (length (u .players))) (dec-both (decLe 1 round) (decLe round (u .rounds))))
-          where
-            read : NoReading a t → ⊥
-            read n = n (written writerEnd u) u r
-
-            seat : Dec ((place .0 < length (u .players)) × ((1 ≤ round) × (round ≤ u .rounds))) → (s : Score) × Asks a t place round s
-            seat (no n) = denied no-place (last-first (QuestionDenies a t (place .0) round) no-place long read (record { file = written writerEnd u; t = u; reading = r; outside = λ k. n (k .0, (k .1, k .2)) }))
-            seat (yes k) = (
-              scoreAnswer noRefusal (earnedBefore u (place .0) round) (accelerationFor u (place .0) round),
-              ask-done (record { no-denial = (long, (read, (inside, tt))); file = written writerEnd u; t = u; reading = r; says = refl }),
-            )
-              where
-                inside : NoPlace a t (place .0) round → ⊥
-                inside s =
-                    let e = one-reading a t (s .file) (written writerEnd u) (s .t) u (s .reading) r in
-                    subst (λ (v : Tournament). (place .0 < length (v .players)) × (1 ≤ round) × (round ≤ v .rounds) → ⊥) e (s .outside) (k .0, k .1 .0, k .1 .1)
+asks-some a t place round = let r = read-or-not a t in replies.asks-some a t (r .0) (r .1) place round

@@ -28,7 +28,7 @@ use Rattle.law.specs.Tables.{Tables, Lent, keptCells, entryCells, enough, enoug
 use Rattle.law.specs.Refusals.{linesOf, Refusal, refusal, noRefusal, Refused}
 use Rattle.law.specs.Writing.{written, earnedBefore, accelerationFor}
 use Rattle.law.specs.Calls.{refusedAnswer, Reads, Reading, Denial, denialOf, writerEnd, WriterDenies, writerDenials, writtenAnswer, Writes, QuestionDenies, questionDenials, scoreAnswer, Asks}
-use Rattle.law.proofs.Samples.{RowHolds}
+use Rattle.law.proofs.Rows.{RowHolds}
 use Rattle.law.proofs.Marked.{rows}
 
 -- ---- of every call, whatever it is given: any file, any answer, tables and output of any length and content; and of all that it may then answer and leave

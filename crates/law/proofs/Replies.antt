@@ -1,5 +1,5 @@
 -- What writer and question answer, computed from what a reading is of: the tests of their refusals, and the answer by the first that holds.
-use mathlib.Core.Bool.{Bool, true, false, _&&_, not}
+use mathlib.Core.Bool.{Bool, false, _&&_, not}
 use mathlib.Core.Option.{Option, none, some}
 use mathlib.Core.List.{List, []}
 use Prim.Native.Nat.{ℕ}

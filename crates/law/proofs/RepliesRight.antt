@@ -4,11 +4,11 @@ use mathlib.Core.Path.{_≡_, refl, sym, ap, _∙_, subst}
 use mathlib.Core.Bool.{Bool, true, false, _&&_, not}
 use mathlib.Core.Option.{Option, none, some}
 use mathlib.Core.List.{List, [], _∷_}
-use Prim.Native.Nat.{ℕ, _≤_, _<_}
+use Prim.Native.Nat.{ℕ, _≤_}
 use native.Mathlib.Omega.{arith}
 use lib.Dec.{leb, ltb}
 use lib.ListN.{length, getD}
-use borrow.Author.Tests.{ltb-true, ltb-false, lt-ltb, leb-true, le-leb, not-true, not-false}
+use borrow.Author.Tests.{ltb-true, ltb-false, lt-ltb, leb-true, le-leb, not-true}
 use Rattle.kit.specs.Lists.{first}
 use Rattle.kit.specs.First.{NoneOf}
 use Rattle.kit.specs.Table.{Holds}
@@ -30,7 +30,7 @@ use Rattle.law.specs.Calls.{refusedAnswer, Cleared, Leaves, Reads, Readi
 use Rattle.law.proofs.Judges.{outcomeOf, is-judged}
 use Rattle.law.proofs.ReadsOnce.{lent-enough}
 use Rattle.law.proofs.Readings.{refused-not-0, reading-has, one-reading}
-use Rattle.law.proofs.Replies.{isTooLong, isOutside, writerDenied, questionDenied, writeBy, writeOf, askBy, askOf, bytesBy, bytesOf, spelledBy}
+use Rattle.law.proofs.Replies.{isTooLong, isOutside, writerDenied, questionDenied, writeOf, askOf, bytesOf, spelledBy}
 
 -- the answer and the tables are a reading of this tournament, or of none
 abbrev pub IsReadingOf : Answer → Tables → Option Tournament → Type 0
