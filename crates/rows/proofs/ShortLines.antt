@@ -48,6 +48,10 @@ module _ (l : List ℕ) (k : ℕ) where
       (pair (keep (between 1 mostStart) (theNumber (numberOf (part-same startField i)))) (pointsOf (part-same pointsField i)))
       (pair (keep (between 1 mostRank) (theNumber (numberOf (part-same rankField i)))) (each (λ (r : ℕ). slot-same r i) everyRound))))
 
+-- the kept columns of a line are those of the same with blanks
+pub kept-wide : (line wide : List ℕ) (k : ℕ) → wide ≡ line ++ replicate k blank → {kept : List ℕ} → kept ≡ part keptField line → kept ≡ part keptField wide
+kept-wide line wide k e h = h ∙ sym (part-same line k keptField) ∙ ap (part keptField) (sym e)
+
 pub short-says : (line wide : List ℕ) (k : ℕ) → wide ≡ line ++ replicate k blank → {r : Row} → RowSays (playerOf wide) r → RowSays (playerOf line) r
 short-says line wide k e {r} s = subst (λ (o : Option PlayerLine). RowSays o r) (ap playerOf e ∙ player-same line k) s
 

@@ -16,8 +16,8 @@ ghost use lib.ListN.{length, replicate};
 ghost use Rattle.kit.specs.Lists.{all, among};
 ghost use Rattle.kit.specs.Decides.{to};
 ghost use Rattle.law.specs.Sizes.{mostRounds};
-ghost use Rattle.law.specs.Columns.{blank, isBlank, cells};
-ghost use Rattle.law.specs.Players.{slotColours, slotResults, capital as capitalOf};
+ghost use Rattle.law.specs.Columns.{blank, isBlank, cells, part};
+ghost use Rattle.law.specs.Players.{slotColours, slotResults, capital as capitalOf, keptField};
 ghost use Rattle.law.specs.Tournament.{blankAs, normal};
 ghost use Rattle.law.proofs.RecordsRead.{slotOf, playerOf};
 ghost use Rattle.join.specs.Store.{rawCell};
@@ -271,15 +271,14 @@ fn no_row() -> Row
     }
 }
 
-// A line that has the columns of all rounds that it reaches: these and the kept ones are taken without a test.
-fn wide_player(line: &[u8], reach: usize) -> Row
-    requires { ⌜ Reaches (now line) reach ⌝ }
+// A line that has the columns of all rounds that it reaches: these are taken without a test. kept: its kept columns.
+fn wide_player(line: &[u8], reach: usize, kept: [u8; KEPT_COLUMNS]) -> Row
+    requires { ⌜ Reaches (now line) reach × (kept ≡ part keptField (now line)) ⌝ }
     ensures { λ r. ⌜ RowSays (playerOf (now (line .entry))) r ⌝ }
 {
     if !player_else_blank(line) {
         return no_row();
     }
-    let kept = kept_columns::kept_of(line);
     if !kept_columns::is_kept(kept) {
         return no_row();
     }
@@ -342,9 +341,10 @@ pub fn player_of(line: &[u8]) -> Row
     ensures { λ r. ⌜ RowSays (playerOf (now (line .entry))) r ⌝ }
 {
     let reach = reach_of(line.len());
+    let kept = kept_columns::kept_of(line);
     if line.len() < 89 + 10 * reach {
         let wide = widened(line);
-        return wide_player(&wide, reach);
+        return wide_player(&wide, reach, kept);
     }
-    wide_player(line, reach)
+    wide_player(line, reach, kept)
 }

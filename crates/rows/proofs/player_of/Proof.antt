@@ -2,13 +2,16 @@
 use Prim.Native.Nat.{_-_}
 use lib.ListN.{length}
 use Rattle.rows.proofs.Reach.{reaches-long, reaches-short}
-use Rattle.rows.proofs.ShortLines.{short-says}
+use Rattle.rows.proofs.ShortLines.{kept-wide, short-says}
 use borrow.Author.Needs.{needs}
 use Rattle.rows.proofs.player_of.Statement.{statement}
 use Rattle.rows.proofs.player_of.Tie as tie
 
 reach-of-requires : tie.Need-reach-of-requires
 reach-of-requires c κs = tt
+
+kept-of-requires : tie.Need-kept-of-requires
+kept-of-requires c κs = tt
 
 mul-if1 : tie.Need-mul-if1
 mul-if1 c = search needs
@@ -24,19 +27,21 @@ slice-aggregate-wide-player c = search needs
 
 wide-player-requires : tie.Need-wide-player-requires
 wide-player-requires c κs =
-    let line = c .before .before .before .before .before .args .line .now in
-    let r = c .before .before .before in
-    reaches-short line (c .before .widened .result) (289 - length line) (r .reach-of .result) (c .before .widened .ensures) (r .reach-of .ensures .0) (search needs) (search needs)
+    let line = c .before .before .before .before .before .before .args .line .now in
+    let r = c .before .before .before .before in
+    let wide = c .before .widened .result in
+    let e = c .before .widened .ensures in
+    (reaches-short line wide (289 - length line) (r .reach-of .result) e (r .reach-of .ensures .0) (search needs) (search needs), kept-wide line wide (289 - length line) e (c .before .before .before .kept-of .ensures))
 
 returns : tie.Need-returns
 returns c =
-    let line = c .before .before .before .before .before .before .args .line .now in
+    let line = c .before .before .before .before .before .before .before .args .line .now in
     short-says line (c .before .before .widened .result) (289 - length line) (c .before .before .widened .ensures) (c .wide-player .ensures)
 
 wide-player-requires-2 : tie.Need-wide-player-requires-2
 wide-player-requires-2 c κs =
-    let r = c .before in
-    reaches-long (c .before .before .before .args .line .now) (r .reach-of .result) (r .reach-of .ensures .0) (r .reach-of .ensures .1) (search needs)
+    let r = c .before .before in
+    (reaches-long (c .before .before .before .before .args .line .now) (r .reach-of .result) (r .reach-of .ensures .0) (r .reach-of .ensures .1) (search needs), c .before .kept-of .ensures)
 
 returns-2 : tie.Need-returns-2
 returns-2 c = c .wide-player2 .ensures
@@ -46,6 +51,7 @@ player-of-spec =
     tie.close
     (tie.spec
     reach-of-requires
+    kept-of-requires
     mul-if1
     add-if1
     widened-requires

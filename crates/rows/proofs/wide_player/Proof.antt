@@ -20,9 +20,6 @@ returns c =
     else-bad (c .before .before .before .before .args .line .now) (cells (c .before .before .before .before .args .line .now) 9 70) refl
     (sym (c .before .before .player-else-blank .ensures) ∙ not-true _ (c .before .if1 .taken)) (c .no-row .ensures)
 
-kept-of-requires : tie.Need-kept-of-requires
-kept-of-requires c κs = tt
-
 is-kept-requires : tie.Need-is-kept-requires
 is-kept-requires c κs = tt
 
@@ -31,7 +28,7 @@ no-row-requires-2 c κs = tt
 
 returns-2 : tie.Need-returns-2
 returns-2 c =
-    kept-bad (c .before .before .before .before .before .before .before .args .line .now) (c .before .before .before .kept-of .result) (c .before .before .before .kept-of .ensures) (sym (c .before .before .before .before .before .player-else-blank .ensures) ∙ not-false _ (c .before .before .before .before .if1 .left))
+    kept-bad (c .before .before .before .before .before .before .args .line .now) (c .before .before .before .before .before .before .args .kept) (c .before .before .before .before .before .before .pre .1) (sym (c .before .before .before .before .player-else-blank .ensures) ∙ not-false _ (c .before .before .before .if1 .left))
     (sym (c .before .before .is-kept .ensures) ∙ not-true _ (c .before .if2 .taken)) (c .no-row2 .ensures)
 
 counted-at-requires : tie.Need-counted-at-requires
@@ -45,7 +42,7 @@ no-row-requires-3 c κs = tt
 
 returns-3 : tie.Need-returns-3
 returns-3 c =
-    start-bad (c .before .before .before .before .before .before .before .before .before .args .line .now) (c .before .before .before .before .before .kept-of .result) (c .before .before .before .before .before .kept-of .ensures) (sym (c .before .before .before .before .before .before .before .player-else-blank .ensures) ∙ not-false _ (c .before .before .before .before .before .before .if1 .left))
+    start-bad (c .before .before .before .before .before .before .before .before .args .line .now) (c .before .before .before .before .before .before .before .before .args .kept) (c .before .before .before .before .before .before .before .before .pre .1) (sym (c .before .before .before .before .before .before .player-else-blank .ensures) ∙ not-false _ (c .before .before .before .before .before .if1 .left))
     (sym (c .before .before .before .before .is-kept .ensures) ∙ not-false _ (c .before .before .before .if2 .left))
     (not-found _ (c .before .before .counted-at .result) (c .before .before .counted-at .ensures) (c .before .match .keys2)) (c .no-row3 .ensures)
 
@@ -63,7 +60,7 @@ no-row-requires-4 c κs = tt
 
 returns-4 : tie.Need-returns-4
 returns-4 c =
-    points-bad (c .before .before .before .before .before .before .before .before .before .before .before .before .before .before .args .line .now) (c .before .before .before .before .before .before .before .before .before .before .kept-of .result) (c .before .before .before .before .before .before .before .before .before .before .kept-of .ensures) (sym (c .before .before .before .before .before .before .before .before .before .before .before .before .player-else-blank .ensures) ∙ not-false _ (c .before .before .before .before .before .before .before .before .before .before .before .if1 .left))
+    points-bad (c .before .before .before .before .before .before .before .before .before .before .before .before .before .args .line .now) (c .before .before .before .before .before .before .before .before .before .before .before .before .before .args .kept) (c .before .before .before .before .before .before .before .before .before .before .before .before .before .pre .1) (sym (c .before .before .before .before .before .before .before .before .before .before .before .player-else-blank .ensures) ∙ not-false _ (c .before .before .before .before .before .before .before .before .before .before .if1 .left))
     (sym (c .before .before .before .before .before .before .before .before .before .is-kept .ensures) ∙ not-false _ (c .before .before .before .before .before .before .before .before .if2 .left)) _ (found _ _ (sym (c .before .before .before .before .before .before .before .counted-at .ensures) ∙ ap numberSays (c .before .before .before .before .before .start .given .1)))
     (none-said _ (sym (c .before .before .before .points-at .ensures) ∙ ap pointsSays (c .before .enum-told .given .1))) (c .no-row4 .ensures)
 
@@ -78,7 +75,7 @@ no-row-requires-5 c κs = tt
 
 returns-5 : tie.Need-returns-5
 returns-5 c =
-    rank-bad (c .before .before .before .before .before .before .before .before .before .before .before .before .before .before .before .before .before .args .line .now) (c .before .before .before .before .before .before .before .before .before .before .before .before .before .kept-of .result) (c .before .before .before .before .before .before .before .before .before .before .before .before .before .kept-of .ensures) (sym (c .before .before .before .before .before .before .before .before .before .before .before .before .before .before .before .player-else-blank .ensures) ∙ not-false _ (c .before .before .before .before .before .before .before .before .before .before .before .before .before .before .if1 .left))
+    rank-bad (c .before .before .before .before .before .before .before .before .before .before .before .before .before .before .before .before .args .line .now) (c .before .before .before .before .before .before .before .before .before .before .before .before .before .before .before .before .args .kept) (c .before .before .before .before .before .before .before .before .before .before .before .before .before .before .before .before .pre .1) (sym (c .before .before .before .before .before .before .before .before .before .before .before .before .before .before .player-else-blank .ensures) ∙ not-false _ (c .before .before .before .before .before .before .before .before .before .before .before .before .before .if1 .left))
     (sym (c .before .before .before .before .before .before .before .before .before .before .before .before .is-kept .ensures) ∙ not-false _ (c .before .before .before .before .before .before .before .before .before .before .before .if2 .left)) _ (found _ _ (sym (c .before .before .before .before .before .before .before .before .before .before .counted-at .ensures) ∙ ap numberSays (c .before .before .before .before .before .before .before .before .start .given .1)))
     _ (value-said _ _ (sym (c .before .before .before .before .before .before .points-at .ensures) ∙ ap pointsSays (c .before .before .before .before .points .given .1)))
     (not-found _ (c .before .before .counted-at2 .result) (c .before .before .counted-at2 .ensures) (c .before .match3 .keys2)) (c .no-row5 .ensures)
@@ -91,14 +88,14 @@ no-row-requires-6 c κs = tt
 
 returns-6 : tie.Need-returns-6
 returns-6 c =
-    slots-bad (c .before .before .before .before .before .before .before .before .before .before .before .before .before .before .before .before .before .before .before .before .before .before .args .line .now) (c .before .before .before .before .before .before .before .before .before .before .before .before .before .before .before .before .before .before .kept-of .result) (c .before .before .before .before .before .before .before .before .before .before .before .before .before .before .before .before .before .before .kept-of .ensures) (sym (c .before .before .before .before .before .before .before .before .before .before .before .before .before .before .before .before .before .before .before .before .player-else-blank .ensures) ∙ not-false _ (c .before .before .before .before .before .before .before .before .before .before .before .before .before .before .before .before .before .before .before .if1 .left))
+    slots-bad (c .before .before .before .before .before .before .before .before .before .before .before .before .before .before .before .before .before .before .before .before .before .args .line .now) (c .before .before .before .before .before .before .before .before .before .before .before .before .before .before .before .before .before .before .before .before .before .args .kept) (c .before .before .before .before .before .before .before .before .before .before .before .before .before .before .before .before .before .before .before .before .before .pre .1) (sym (c .before .before .before .before .before .before .before .before .before .before .before .before .before .before .before .before .before .before .before .player-else-blank .ensures) ∙ not-false _ (c .before .before .before .before .before .before .before .before .before .before .before .before .before .before .before .before .before .before .if1 .left))
     (sym (c .before .before .before .before .before .before .before .before .before .before .before .before .before .before .before .before .before .is-kept .ensures) ∙ not-false _ (c .before .before .before .before .before .before .before .before .before .before .before .before .before .before .before .before .if2 .left)) _ (found _ _ (sym (c .before .before .before .before .before .before .before .before .before .before .before .before .before .before .before .counted-at .ensures) ∙ ap numberSays (c .before .before .before .before .before .before .before .before .before .before .before .before .before .start .given .1)))
     _ (value-said _ _ (sym (c .before .before .before .before .before .before .before .before .before .before .before .points-at .ensures) ∙ ap pointsSays (c .before .before .before .before .before .before .before .before .before .points .given .1))) _ (found _ _ (sym (c .before .before .before .before .before .before .before .counted-at2 .ensures) ∙ ap numberSays (c .before .before .before .before .before .rank .given .1))) (c .before .before .before .slots-of .result) (c .before .before .before .slots-of .ensures)
     (not-true _ (c .before .if3 .taken)) (c .no-row6 .ensures)
 
 returns-7 : tie.Need-returns-7
 returns-7 c =
-    row-good (c .before .before .before .before .before .before .before .before .before .before .before .before .before .before .before .before .before .before .before .before .before .before .before .before .args .line .now) (c .before .before .before .before .before .before .before .before .before .before .before .before .before .before .before .before .before .before .before .before .kept-of .result) (c .before .before .before .before .before .before .before .before .before .before .before .before .before .before .before .before .before .before .before .before .kept-of .ensures) (sym (c .before .before .before .before .before .before .before .before .before .before .before .before .before .before .before .before .before .before .before .before .before .before .player-else-blank .ensures) ∙ not-false _ (c .before .before .before .before .before .before .before .before .before .before .before .before .before .before .before .before .before .before .before .before .before .if1 .left))
+    row-good (c .before .before .before .before .before .before .before .before .before .before .before .before .before .before .before .before .before .before .before .before .before .before .before .args .line .now) (c .before .before .before .before .before .before .before .before .before .before .before .before .before .before .before .before .before .before .before .before .before .before .before .args .kept) (c .before .before .before .before .before .before .before .before .before .before .before .before .before .before .before .before .before .before .before .before .before .before .before .pre .1) (sym (c .before .before .before .before .before .before .before .before .before .before .before .before .before .before .before .before .before .before .before .before .before .player-else-blank .ensures) ∙ not-false _ (c .before .before .before .before .before .before .before .before .before .before .before .before .before .before .before .before .before .before .before .before .if1 .left))
     (sym (c .before .before .before .before .before .before .before .before .before .before .before .before .before .before .before .before .before .before .before .is-kept .ensures) ∙ not-false _ (c .before .before .before .before .before .before .before .before .before .before .before .before .before .before .before .before .before .before .if2 .left)) _ (found _ _ (sym (c .before .before .before .before .before .before .before .before .before .before .before .before .before .before .before .before .before .counted-at .ensures) ∙ ap numberSays (c .before .before .before .before .before .before .before .before .before .before .before .before .before .before .before .start .given .1)))
     _ (value-said _ _ (sym (c .before .before .before .before .before .before .before .before .before .before .before .before .before .points-at .ensures) ∙ ap pointsSays (c .before .before .before .before .before .before .before .before .before .before .before .points .given .1))) _ (found _ _ (sym (c .before .before .before .before .before .before .before .before .before .counted-at2 .ensures) ∙ ap numberSays (c .before .before .before .before .before .before .before .rank .given .1))) (c .before .before .before .before .before .slots-of .result) (c .before .before .before .before .before .slots-of .ensures)
     (not-false _ (c .before .before .before .if3 .left))
@@ -110,7 +107,6 @@ wide-player-spec =
     player-else-blank-requires
     no-row-requires
     returns
-    kept-of-requires
     is-kept-requires
     no-row-requires-2
     returns-2
