@@ -9,7 +9,6 @@ use lib.ListN.{length}
 use Rattle.kit.specs.Lists.{between, all, among, isEmpty, Each}
 use Rattle.kit.specs.Table.{Holds}
 use Rattle.kit.proofs.Bools.{clash, within, among-all}
-use Rattle.kit.proofs.Decided.{unique}
 use Rattle.types.specs.declared.Answer.{Answer}
 use Rattle.law.specs.Sizes.{mostFile}
 use Rattle.law.specs.Lines.{Line, Lines}
@@ -25,7 +24,6 @@ use Rattle.law.specs.Writing.{written}
 use Rattle.law.specs.Calls.{refusedAnswer, Cleared, Leaves, Reads, Reading, writerEnd}
 use Rattle.law.proofs.Cut.{one-lines}
 use Rattle.law.proofs.LinesRead.{tested-line}
-use Rattle.law.proofs.Faults.{lines-spelled}
 use Rattle.law.proofs.Accepts.{tested-file, one-tournament}
 use Rattle.law.proofs.Judges.{one-outcome, accepted-lawful, accepted-long}
 use Rattle.law.proofs.ReadsOnce.{reads-some, reads-lawful}
@@ -105,27 +103,33 @@ module _ (file : List ℕ) (before : Lent) (a : Answer) (after : Lent) (r : Read
       go (accepted t ps rs) j l e = absurd (not-both t x (accepted-lawful (enoughLent before) file t ps rs j .1) (sym (l .0) ∙ e))
 
   -- an acceptance holds what the lines spell
-  pub read-columns : a .number ≡ 0 → (lines : List Line) → Lines file lines → (items : List Item) → Each SpellsLine lines items
-      → (a ≡ answerOf (tournamentOf items)) × HoldLent (contentOf (tournamentOf items)) (linesContent (linesOf playerCode 0 lines) (linesOf accelerationCode 0 lines)) before after
+  pub read-columns : a .number ≡ 0 → (lines : List Line) × (items : List Item) × Lines file lines × Each SpellsLine lines items
+      × (a ≡ answerOf (tournamentOf items)) × HoldLent (contentOf (tournamentOf items)) (linesContent (linesOf playerCode 0 lines) (linesOf accelerationCode 0 lines)) before after
   unfolding refusedAnswer
-  read-columns n lines are items each = go (r .outcome) (r .judged) (r .leaves)
+  read-columns n = go (r .outcome) (r .judged) (r .leaves)
     where
       go : (o : Outcome) → Judged (enoughLent before) file o → Leaves o before a after
-          → (a ≡ answerOf (tournamentOf items)) × HoldLent (contentOf (tournamentOf items)) (linesContent (linesOf playerCode 0 lines) (linesOf accelerationCode 0 lines)) before after
+          → (lines : List Line) × (items : List Item) × Lines file lines × Each SpellsLine lines items
+          × (a ≡ answerOf (tournamentOf items)) × HoldLent (contentOf (tournamentOf items)) (linesContent (linesOf playerCode 0 lines) (linesOf accelerationCode 0 lines)) before after
       go (refused x) j l =
           let e = ap (λ (a : Answer). a .number) (l .0) ∙ ap (λ (x : Refusal). x .number) (j .says) in
           let k = label-number (j .label) .0 in
           absurd (omega arith)
       go (accepted t ps rs) j l =
           let s = j .spells in
-          let h = subst (λ (ls : List Line). Each SpellsLine ls (s .items)) (one-lines file (s .lines) lines (s .are) are) (s .spelled) in
-          let e : t ≡ tournamentOf items = s .tournament ∙ ap tournamentOf (unique lines-spelled lines (s .items) items h each) in
-          let m = one-lines file (j .lines) lines (j .are) are in
-          let p : ps ≡ linesOf playerCode 0 lines = j .player-lines ∙ ap (linesOf playerCode 0) m in
-          let q : rs ≡ linesOf accelerationCode 0 lines = j .acceleration-lines ∙ ap (linesOf accelerationCode 0) m in
+          let lines = j .lines in
+          let items = s .items in
+          let h = subst (λ (ls : List Line). Each SpellsLine ls items) (one-lines file (s .lines) lines (s .are) (j .are)) (s .spelled) in
+          let e : t ≡ tournamentOf items = s .tournament in
           let held = subst (λ (u : Tournament). HoldLent (contentOf u) (linesContent ps rs) before after) e (l .1) in
-          let numbered = subst (λ (x : List ℕ). HoldLent (contentOf (tournamentOf items)) (linesContent x rs) before after) p held in
-          (l .0 ∙ ap answerOf e, subst (λ (x : List ℕ). HoldLent (contentOf (tournamentOf items)) (linesContent (linesOf playerCode 0 lines) x) before after) q numbered)
+          let numbered = subst (λ (x : List ℕ). HoldLent (contentOf (tournamentOf items)) (linesContent x rs) before after) (j .player-lines) held in (
+            lines,
+            items,
+            j .are,
+            h,
+            l .0 ∙ ap answerOf e,
+            subst (λ (x : List ℕ). HoldLent (contentOf (tournamentOf items)) (linesContent (linesOf playerCode 0 lines) x) before after) (j .acceleration-lines) numbered,
+          )
 
 -- ---- accepted exactly when a lawful tournament is spelled
 pub accepts-exactly : (file : List ℕ) (before : Lent) (a : Answer) (after : Lent) → Reads file before a after → enoughLent before ≡ true → length file ≤ mostFile

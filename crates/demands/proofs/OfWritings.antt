@@ -107,17 +107,15 @@ module _ (a : Answer) (tables : Tables) (before : List ℕ) (w : Written) (after
       let s = write-exactly h tables-short .1 (short-first Denies out-short e) in
       (s, write-untouched h (let n = ap (λ (v : Written). v .number) s in omega arith))
 
-  pub write-bytes : Writes a tables before w after → w .number ≡ 0 → (file : List ℕ) (t : Tournament) → Reading a tables file t
-      → (w ≡ writtenAnswer noRefusal (length (written writerEnd t))) × (after ≡ written writerEnd t ++ drop (length (written writerEnd t)) before)
+  pub write-bytes : Writes a tables before w after → w .number ≡ 0 → (file : List ℕ) × (t : Tournament) × Reading a tables file t
+      × (w ≡ writtenAnswer noRefusal (length (written writerEnd t))) × (after ≡ written writerEnd t ++ drop (length (written writerEnd t)) before)
   unfolding writtenAnswer
-  write-bytes (write-refused r) n file t k =
+  write-bytes (write-refused r) n =
       let e = ap (λ (v : Written). v .number) (r .says) in
       let m = denial-number (r .denial) in
       absurd (omega arith)
-  write-bytes (write-done r) n file t k =
-      subst (λ (u : Tournament). (w ≡ writtenAnswer noRefusal (length (written writerEnd u))) × (after ≡ written writerEnd u ++ drop (length (written writerEnd u)) before))
-      (one-reading a tables (r .file) file (r .t) t (r .reading) k)
-      (r .says, laid-over (written writerEnd (r .t)) before after (fits a tables before w after r) (r .bytes))
+  write-bytes (write-done r) n =
+      (r .file, r .t, r .reading, r .says, laid-over (written writerEnd (r .t)) before after (fits a tables before w after r) (r .bytes))
 
   -- given room, nothing denies a reading
   write-room : Writes a tables before w after → (file : List ℕ) (t : Tournament) → Reading a tables file t → length (written writerEnd t) ≤ length before → w .number ≡ 0
@@ -181,12 +179,11 @@ module _ (a : Answer) (tables : Tables) (place : Place) (round : ℕ) (s : Score
   pub ask-short : Asks a tables place round s → enough tables ≡ false → s ≡ scoreAnswer (refusal 1 0 0) 0 0
   ask-short h e = ask-exactly h tables-short .1 (short-first Denied no-place e)
 
-  pub ask-values : Asks a tables place round s → s .number ≡ 0 → (file : List ℕ) (t : Tournament) → Reading a tables file t
-      → s ≡ scoreAnswer noRefusal (earnedBefore t (place .0) round) (accelerationFor t (place .0) round)
+  pub ask-values : Asks a tables place round s → s .number ≡ 0 → (file : List ℕ) × (t : Tournament) × Reading a tables file t
+      × (s ≡ scoreAnswer noRefusal (earnedBefore t (place .0) round) (accelerationFor t (place .0) round))
   unfolding scoreAnswer
-  ask-values (ask-refused r) n file t k =
+  ask-values (ask-refused r) n =
       let e = ap (λ (v : Score). v .number) (r .says) in
       let m = denial-number (r .denial) in
       absurd (omega arith)
-  ask-values (ask-done r) n file t k =
-      r .says ∙ ap (λ (u : Tournament). scoreAnswer noRefusal (earnedBefore u (place .0) round) (accelerationFor u (place .0) round)) (one-reading a tables (r .file) file (r .t) t (r .reading) k)
+  ask-values (ask-done r) n = (r .file, r .t, r .reading, r .says)

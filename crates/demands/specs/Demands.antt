@@ -70,21 +70,21 @@ pub record Demand-1 : Type 0 where
 pub record Demand-2 : Type 0 where
   -- "Reading [..] follow[s] document 01: every column": an accepted file's lines spell items, column by column (`SpellsItem`), and the answer and every cell, line numbers
   -- too, are those of what the items say together
-  pub columns : EveryReading (λ file before a after. a .number ≡ 0 → (lines : List Line) → Lines file lines → (items : List Item) → Each SpellsLine lines items
-      → (a ≡ answerOf (tournamentOf items)) × HoldLent (contentOf (tournamentOf items)) (linesContent (linesOf playerCode 0 lines) (linesOf accelerationCode 0 lines)) before after)
-  -- "every result code's worth"
+  pub columns : EveryReading (λ file before a after. a .number ≡ 0 → (lines : List Line) × (items : List Item) × Lines file lines × Each SpellsLine lines items
+      × (a ≡ answerOf (tournamentOf items)) × HoldLent (contentOf (tournamentOf items)) (linesContent (linesOf playerCode 0 lines) (linesOf accelerationCode 0 lines)) before after)
+  -- "every result code's worth", by which 16 tests the points (`statesSum`) and a question is answered (`values`)
   pub worths : (s : Scoring) → map (worth s) (ascii "1W+F=DH0L-ZU")
       ≡ s .win ∷ s .win ∷ s .win ∷ s .win ∷ s .draw ∷ s .draw ∷ s .draw ∷ s .loss ∷ s .loss ∷ s .absent ∷ s .absent ∷ s .pairing ∷ []
   -- "every refusal with its place": given exactly when it is the first fault
   pub reading-refusals : EveryReading (λ file before a after. (x : Refusal) → (a ≡ refusedAnswer x) ↔ Refused (enoughLent before) file x)
   pub writing-refusals : EveryWriting (λ a tables before w after. (d : Denial) → (w ≡ writtenAnswer (denialOf d) 0) ↔ FirstIn (WriterDenies a tables (length before)) writerDenials d)
   pub question-refusals : EveryQuestion (λ a tables place round s. (d : Denial) → (s ≡ scoreAnswer (denialOf d) 0 0) ↔ FirstIn (QuestionDenies a tables (place .0) round) questionDenials d)
-  -- "every byte that the writer puts out": those of the tournament that was read, and after them the output as it was
-  pub bytes : EveryWriting (λ a tables before w after. w .number ≡ 0 → (file : List ℕ) (t : Tournament) → Reading a tables file t
-      → (w ≡ writtenAnswer noRefusal (length (written writerEnd t))) × (after ≡ written writerEnd t ++ drop (length (written writerEnd t)) before))
+  -- "every byte that the writer puts out": those of the tournament that was read, which `held-no-other` says is one, and after them the output as it was
+  pub bytes : EveryWriting (λ a tables before w after. w .number ≡ 0 → (file : List ℕ) × (t : Tournament) × Reading a tables file t
+      × (w ≡ writtenAnswer noRefusal (length (written writerEnd t))) × (after ≡ written writerEnd t ++ drop (length (written writerEnd t)) before))
   -- and the question's two values
-  pub values : EveryQuestion (λ a tables place round s. s .number ≡ 0 → (file : List ℕ) (t : Tournament) → Reading a tables file t
-      → s ≡ scoreAnswer noRefusal (earnedBefore t (place .0) round) (accelerationFor t (place .0) round))
+  pub values : EveryQuestion (λ a tables place round s. s .number ≡ 0 → (file : List ℕ) × (t : Tournament) × Reading a tables file t
+      × (s ≡ scoreAnswer noRefusal (earnedBefore t (place .0) round) (accelerationFor t (place .0) round)))
   -- the twelve rows that document 01 marks for proof
   pub marked-rows : AllOf RowHolds rows
 
