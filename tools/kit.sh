@@ -63,7 +63,7 @@ interrupted() {
     { kill "$making" && wait "$making"; } 2>/dev/null
     end_progress
     say "interrupted: what was proved is kept, and the next call goes on from there"
-    exit 130
+    exit 2
 }
 
 # by_words WORDS..: rt with these words, into the log. The provers are a process group of their own, which `timeout` makes and, ended, ends: no prover
@@ -106,7 +106,7 @@ by_rt() {
     began=$here/target/log/$goal.began
     needed=$(needs_of "$goal" | paste -s -d ' ' -)
     total=$(printf '%s\n' "$needed" | awk '{ print NF }')
-    mkdir -p "$here/target/log" && exec 9>"$here/target/making" || exit 2
+    { mkdir -p "$here/target/log" && exec 9>"$here/target/making"; } 2>/dev/null || fail "the folder $here/target could not be written"
     flock -n 9 || { say "another call is proving: waiting for it" && flock 9; }
     until is_fresh "$wanted"; do
         seconds=0
@@ -118,9 +118,10 @@ by_rt() {
         end_progress
         if [ $ended -ne 0 ]; then
             say "${wanted#"$here"/} could not be made. $log has what rt said; the first fault in it:"
-            fail "$(awk '{ last = $0 } /NOT PROVED|error/ { exit } END { print substr(last, 1, 300) }' "$here/$log")"
+            fail "$(awk '{ last = $0 } /NOT PROVED|error/ { exit } END { print last == "" ? "rt said nothing" : substr(last, 1, 300) }' "$here/$log")"
         fi
-        [ "$before" != "$(sources)" ] || made_of "$wanted" >"$wanted.of"
+        [ -f "$wanted" ] || fail "rt made no ${wanted#"$here"/}; $log has what it said"
+        [ "$before" != "$(sources)" ] || made_of "$wanted" >"$wanted.of" || fail "${wanted#"$here"/}.of could not be written"
     done
     exec 9>&-
 }

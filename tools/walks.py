@@ -24,8 +24,8 @@ new reference; a length needs one, and the same one again for a second time.
 
 The steps themselves (`assigns`, `calls-at`, `fsplit`, ..) are the language's; its guide on proofs by hand explains them.
 """
+import argparse
 import os
-import sys
 
 ROOT = os.path.dirname(os.path.dirname(os.path.abspath(__file__)))
 FACE = 'face'
@@ -774,9 +774,12 @@ use denote.Exit.{yes}'''
 
 
 def main():
+    parser = argparse.ArgumentParser(description=__doc__, formatter_class=argparse.RawDescriptionHelpFormatter)
+    parser.add_argument('names', nargs='*', metavar='NAME', help='a call whose proof is written')
+    names = parser.parse_args().names
     with open(f'{ROOT}/crates/{FACE}/src/lib.rt') as f:
         source = f.read()
-    wanted = sys.argv[1:] or [call['name'] for call in CALLS if f'fn {call["name"]}(' in source]
+    wanted = names or [call['name'] for call in CALLS if f'fn {call["name"]}(' in source]
     for call in CALLS:
         if call['name'] in wanted:
             folder = f'{ROOT}/crates/{FACE}/proofs/{call["name"]}'

@@ -1,4 +1,4 @@
--- Report files and lines of our own, laid out by hand, apart from the statement's own columns: what the rows of `Watched`, and of the crate `guards`, are about.
+-- Report files and lines of our own, laid out by hand, apart from the statement's own columns: what the rows of `Watched`, and of the crate `guards`, are about. Definitions alone.
 use mathlib.Core.List.{List, [], _∷_, _++_}
 use Prim.Native.Nat.{ℕ, _+_, _-_}
 use Prim.Native.String.{String}

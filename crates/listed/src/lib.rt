@@ -129,7 +129,7 @@ pub fn read_input(fd: i32, file: &mut [u8]) -> Input
     Input::Bytes(n)
 }
 
-// The same, of what a descriptor gives. Where it cannot be read, nothing is written.
+// The listing of what a descriptor gives, as `print_listing` prints it. Where it cannot be read, nothing is written.
 pub fn print_input(fd: i32) -> Printed {
     let mut file = [0u8; MOST_READ];
     let Input::Bytes(n) = read_input(fd, &mut file) else {

@@ -1,4 +1,5 @@
-// Writes the report file that stands on standard input in the writer's spelling. Standard error has one line: `accepted`, the line of a refusal, or what could not be read or written.
+// Writes the report file that stands on standard input in the writer's spelling. Standard error has one line: `accepted`, the line of a refusal, or what could
+// not be read or written.
 use libc::STDERR_FILENO;
 use libc::STDIN_FILENO;
 use listed::Printed;
