@@ -1,9 +1,10 @@
 #!/usr/bin/env python3
 """mutate.py [--jobs N] [WORD..]: changes the statement in one place at a time, in copies under target/mutants, and says at which row or theorem each change is refused.
 A change counts as refused where a computed row fails, or where a theorem below no longer holds; an error anywhere else is SHAPE: a proof broke, but nothing was said
-that the change makes false. SHAPE and SURVIVES show a rule that no row and no theorem guards. A change of a function that decides a relation (proofs/..) must be seen
-at a row: it stands for a change that relation and function share. With words, only the changes whose file or text has one of them. N copies at a time, 2 if not said."""
-import argparse, os, re, shutil, subprocess, sys
+that the change makes false. SHAPE and SURVIVES show a rule that no row and no theorem guards; NOT SAID is a change that says nothing, as of a name out of scope. A change of a function that decides a relation (proofs/..) must be seen
+at a row: it stands for a change that relation and function share. With words, only the changes whose file or text has one of them. N copies at a time, 2 if not said.
+The rows are tried in two parts, the cheap sections first; target/mutants/seen.json keeps at which section a change was refused, which is then tried alone before the rest."""
+import argparse, json, os, re, shutil, subprocess, sys
 from concurrent.futures import ThreadPoolExecutor
 from queue import Queue
 
@@ -133,11 +134,8 @@ CHANGES = [
     ("Entries", 'ascii "10" ∷', 'ascii "10" ∷ ascii "00" ∷'),
     ("Entries", " || isOneOf (b ∷ a ∷ []) fittingPairs", ""),
     ("Entries", "any (hasU r) (take place (t .players))", "any (hasU r) (t .players)"),
-    ("Entries", 'ascii "1W+F"', 'ascii "1WF"'),
-    ("Entries", '(among result (ascii "-Z")) (s .absent)', '(among result (ascii "Z")) (s .absent)'),
     ("Entries", '(ascii "0L")) (s .loss)', '(ascii "0L")) (s .absent)'),
     ("Entries", '(ascii "U")) (s .pairing)', '(ascii "U")) (s .win)'),
-    ("Entries", '(ascii "=DH")) (s .draw)', '(ascii "=H")) (s .draw)'),
     # spelling
     ("Spelling", "isEnded (l .end) && leb", "isEnded (some Rattle.law.specs.Lines.cr) && leb"),
     ("Spelling", "ltb (roundsOf items) r && slotAt", "ltb r (roundsOf items) && slotAt"),
@@ -183,7 +181,7 @@ CHANGES = [
     ("Refusals", "isAgain before (colour c) = not (isEmpty (flat colourIn before))", "isAgain before (colour c) = false"),
     ("Refusals", "labelsOf players accelerations shared = eachSeat shared accelerations", "labelsOf players accelerations shared = eachSeat shared players"),
     ("Refusals", "leb r (tournamentOf items .rounds) && not (keeps", "not (keeps"),
-    ("Refusals", "IsLineFault too-long before l = mostLine < length (rowOf (l .text))", "IsLineFault too-long before l = mostLine ≤ length (rowOf (l .text))"),
+    ("Refusals", "IsLineFault too-long before l = mostLine < length (rowOf (l .text))", "IsLineFault too-long before l = 511 < length (rowOf (l .text))"),
     ("Refusals", "pub no-fault : NoneOf (IsFault long file lines) (labels lines)", "pub no-fault : NoneOf (IsFault long file lines) []"),
     ("Refusals", "seatsFrom (place + 1) ns", "seatsFrom place ns"),
     ("Refusals", "incomplete = of-file incomplete nowhere 0", "incomplete = of-file incomplete nowhere 1"),
@@ -357,6 +355,38 @@ CHANGES = [
     *[("Calls", "      %s = 0;\n" % k, "      %s = 1;\n" % k) for k in ("rounds", "accelerations", "text", "colour")],
     ("Calls", "values = map (λ c. 0) letters", "values = map (λ c. 1) letters"),
     ("Calls", "ask-refused : AskRefused answer tables (place .0) round r", "ask-refused : AskRefused answer tables round (place .0) r"),
+    # one more of each module
+    ("Accelerations", "between (a .«first_round») (a .«last_round») round &&", "between (a .«first_round») (a .«last_round») round ||"),
+    ("Columns", "padded (suc w) [] = blank ∷ padded w []", "padded (suc w) [] = 0 ∷ padded w []"),
+    ("Entries", "any (λ q. eqb (q .start) id) (t .players)", "any (λ q. eqb (q .rank) id) (t .players)"),
+    ("Entries", "opponent t e = first (λ q. eqb (q .start) (e .id)) (t .players)", "opponent t e = first (λ q. eqb (q .rank) (e .id)) (t .players)"),
+    ("Entries", "asked f none = true", "asked f none = false"),
+    ("Fields", "blanks blank)\n  pub digits : all isDigit (first ∷ others)", "blanks blank)\n  pub digits : all isDigit others"),
+    ("Heads", "pub number-in : n ≤ mostRounds", "pub number-in : n ≤ 19"),
+    ("Items", "same (part codeField row) accelerationCode", "same (part codeField row) scoringCode"),
+    ("Lawful", "isTaken before p = any (λ q. eqb (q .start) (p .start)) before", "isTaken before p = any (λ q. eqb (q .rank) (p .rank)) before"),
+    ("Lawful", "pub round-high : r ≤ t .rounds", "pub round-high : r < t .rounds"),
+    ("Lawful", "(take j records)", "records"),
+    ("Lines", "joined (l ∷ ls) = l .text ++ (endBytes (l .end) ++ joined ls)", "joined (l ∷ ls) = l .text ++ joined ls"),
+    ("Players", '(c - (code "a" - code "A"))', "c"),
+    ("Players", "pub kept : p .kept ≡ part keptField row", "pub kept : p .kept ≡ part nameField row"),
+    ("Refusals", "length (flat ended (flat textIn before)) + length (ended kept)", "length (flat ended (flat textIn before)) + length kept"),
+    ("Refusals", "ltb mostAccelerations (length (flat accelerationIn before) + 1)", "ltb mostAccelerations (length (flat accelerationIn before))"),
+    ("Refusals", "ltb mostPlayers (length (flat playerIn before) + 1)", "ltb mostPlayers (length (flat playerIn before))"),
+    ("Refusals", "IsFault long file lines too-big = mostFile < length file", "IsFault long file lines too-big = 65534 < length file"),
+    ("Refusals", "pub player-lines : ofPlayers ≡ linesOf playerCode 0 lines", "pub player-lines : ofPlayers ≡ linesOf playerCode 1 lines"),
+    ("Scoring", "cond (eqb letter (v .0)) (v .1)", "cond (eqb letter (v .0)) (v .0)"),
+    ("Spelling", "leb (length (rowOf (l .text))) mostLine", "leb (length (rowOf (l .text))) 513"),
+    ("Spelling", "r ≤ mostRounds → isPast", "r < mostRounds → isPast"),
+    ("Tables", "entryCells = mostPlayers * mostRounds", "entryCells = mostPlayers * 19"),
+    ("Text", "pub text : row ≡ kept ++ replicate blanks blank", "pub text : row ≡ kept ++ replicate 0 blank"),
+    ("Tournament", "lines) mostRounds\n", "lines) (mostRounds - 1)\n"),
+    ("Tournament", "players = map (playerOf (roundsOf items))", "players = map (playerOf mostRounds)"),
+    ("Writing", "laid (suc (x .0 .1)) pieces", "laid (x .0 .1) pieces"),
+    ("Writing", "t .text ++ (roundsLine (t .rounds) ∷ (colourLines (t .colour) ++", "t .text ++ (colourLines (t .colour) ++ (roundsLine (t .rounds) ∷"),
+    ("Calls", "WriteDone answer tables before r after → Writes", "WriteRefused answer tables before r after → Writes"),
+    ("Calls", "pub no-denial : NoneOf (WriterDenies answer tables (length before)) writerDenials", "pub no-denial : NoneOf (WriterDenies answer tables (length before)) []"),
+    ("Calls", "pub no-denial : NoneOf (QuestionDenies answer tables place round) questionDenials", "pub no-denial : NoneOf (QuestionDenies answer tables place round) []"),
     # ---- the functions that decide the relations, which the rows compute: a change that relation and function share must be seen at a row
     ("proofs/FieldsRead", "(some (digitValue a * 100 + digitValue b * 10 + digitValue d))\n", "(some (digitValue a * 10 + digitValue b * 10 + digitValue d))\n"),
     ("proofs/FieldsRead", 'arePoints a b c d = eqb c (code ".") && (isTens a && isDigit b && isDigit d)', 'arePoints a b c d = eqb c (code ".") && (isTens a && isDigit b)'),
@@ -471,19 +501,20 @@ class Errors:
 
     def __init__(self, out):
         self.proved = out.rstrip().split("\n")[-1].startswith("logic=proved")
-        self.rows, self.own, self.follows, name = [], [], [], None
+        self.rows, self.own, self.follows, self.stated, name = [], [], [], [], None
         for line in out.split("\n"):
-            m = re.match(r".*crates/\w+/(?:specs|proofs)/(\w+)\.antt:(\d+):\d+: error: (?:`([^`]+)`: )?(.*)", line)
+            m = re.match(r".*crates/\w+/(specs|proofs)/(\w+)\.antt:(\d+):\d+: error: (?:`([^`]+)`: )?(.*)", line)
             if m:
-                module, number, name, what = m.groups()
+                part, module, number, name, what = m.groups()
                 n = re.match(r"`([^`]+)` was not admitted", what)
                 if n:
                     self.follows.append((module, n.group(1), name))
                 else:
                     self.own.append((module, name or "line " + number))
-            r = re.search(r"test \((.*)\) ≡ (?:mathlib\.Core\.Bool\.)?true", line)
-            if r and name in ("guardRows", "watchedRows", "computed") and r.group(1) not in self.rows:
-                self.rows.append(r.group(1))
+                    self.stated += [what] if part == "specs" else []
+            r = re.search(r"expected type `(?:mathlib\.Core\.Path\._≡_ \()?test \((.*?)\)+ (?:≡ )?(?:mathlib\.Core\.Bool\.)?true`", line)
+            if r and name in ("guardRows", "watchedRows", "computed"):
+                self.rows.append((module, r.group(1)))
 
     def reached(self, module, name, wanted):
         """The first wanted name that an error in this one reaches, by parts of one module, or of any if none is given."""
@@ -505,11 +536,38 @@ class Errors:
 
 
 def said(room, crate):
-    run = subprocess.run(["rt", "dev", crate], cwd=room, capture_output=True, text=True, env=dict(os.environ, RT_JOBS="1"))
+    run = subprocess.run(["rt", "dev", crate], cwd=room, capture_output=True, text=True, env=dict(os.environ, RT_JOBS="1", RT_CUT="0"))
     return Errors(run.stdout + run.stderr)
 
 
-def workers(n):
+class Rows:
+    """The rows of the crate `guards`, a module a section, in the copy of law: so they are computed even where a proof of law is broken, and no section for a change that it does not reach."""
+
+    DEAR = ("001 lines", "what a result earns", "once only", "a round's entry")
+
+    def __init__(self):
+        text = open(os.path.join(ROOT, "crates/guards/proofs/Guards.antt")).read()
+        text = text.replace("Rattle.law.specs.", "Rattle.law.specs.").replace("Rattle.law.proofs.", "Rattle.law.proofs.")
+        at, end = text.index("guardRows =\n") + len("guardRows =\n"), text.index(" ∷ []\n\npub guarded")
+        sections = re.findall(r"(?ms)^    -- ---- (.*?)\n(.*?)(?: ∷)?\s*(?=^    -- ---- |\Z)", text[at:end])
+        self.titles = {"Guards%d" % i: title for i, (title, _) in enumerate(sections)}
+        self.texts = {"Guards%d" % i: text[:at] + rows + text[end:] for i, (_, rows) in enumerate(sections)}
+        self.all = list(self.titles)
+        self.cheap = [m for m in self.all if not self.titles[m].startswith(self.DEAR)]
+        self.modules = "".join(l for l in open(os.path.join(ROOT, "crates/law/proofs/Lib.antt")) if LEFT_OUT not in l)
+
+    def write(self, room, modules):
+        proofs = os.path.join(room, "crates/law/proofs")
+        for m in self.all:
+            path = os.path.join(proofs, m + ".antt")
+            if m in modules:
+                open(path, "w").write(self.texts[m])
+            elif os.path.exists(path):
+                os.remove(path)
+        open(os.path.join(proofs, "Lib.antt"), "w").write(self.modules + "".join("pub mod %s\n" % m for m in modules))
+
+
+def workers(n, rows):
     rooms = Queue()
     for i in range(n):
         room = os.path.join(ROOT, "target", "mutants", str(i))
@@ -518,37 +576,43 @@ def workers(n):
         os.makedirs(room, exist_ok=True)
         for crate in KEEP:
             shutil.copytree(os.path.join(ROOT, "crates", crate), os.path.join(room, "crates", crate))
-        # the rows of the crate `guards` stand in the copy of law, so that they are computed even where a proof of law is broken
-        rows = open(os.path.join(ROOT, "crates/guards/proofs/Guards.antt")).read()
-        rows = rows.replace("Rattle.law.specs.", "Rattle.law.specs.").replace("Rattle.law.proofs.", "Rattle.law.proofs.")
-        open(os.path.join(room, "crates/law/proofs/Guards.antt"), "w").write(rows)
-        modules = os.path.join(room, "crates/law/proofs/Lib.antt")
-        kept = [l for l in open(modules) if LEFT_OUT not in l]
-        open(modules, "w").writelines(kept + ["pub mod Guards\n"])
         os.remove(os.path.join(room, "crates/law/proofs", LEFT_OUT + ".antt"))
         lines = open(os.path.join(ROOT, "crates.txt")).read().split("\n")
         open(os.path.join(room, "crates.txt"), "w").write("\n".join(l for l in lines if l.split(":")[0] in KEEP) + "\n")
+        rows.write(room, rows.all)
         if not said(room, "law").proved:
             sys.exit("mutate: the unchanged statement is not proved")
+        shutil.rmtree(os.path.join(room, "kept"), ignore_errors=True)
+        shutil.copytree(os.path.join(room, "target/inc/law"), os.path.join(room, "kept"))
         rooms.put(room)
     return rooms
 
 
-def judge(room, name):
-    """Verdict and place: rows first, then theorems of law, then theorems of written."""
-    law = said(room, "law")
-    if law.rows:
-        return "refused", "row " + law.rows[0]
+def judge(room, rows, name, seen):
+    """Verdict, place, and the module of the row: rows first, then theorems of law, then theorems of written."""
+    # every change starts from what the checker has kept of the unchanged statement
+    shutil.rmtree(os.path.join(room, "target/inc/law"))
+    shutil.copytree(os.path.join(room, "kept"), os.path.join(room, "target/inc/law"))
+    for modules in ([m for m in rows.all if m == seen], rows.cheap, rows.all):
+        rows.write(room, modules)
+        law = said(room, "law")
+        if law.stated:
+            return "NOT SAID", law.stated[0], ""
+        if law.rows:
+            return "refused", "row " + law.rows[0][1], law.rows[0][0]
+        # no row saw it the last time, and a theorem does
+        if seen == "no row" and law.theorems("law"):
+            break
     if name.startswith("proofs/"):
-        return "NO ROW", "%s %s" % law.own[0] if law.own else ""
+        return "NO ROW", "%s %s" % law.own[0] if law.own else "", ""
     if law.theorems("law"):
-        return "refused", "theorem " + law.theorems("law")
+        return "refused", "theorem " + law.theorems("law"), "no row"
     if not law.proved:
-        return "SHAPE", "%s %s" % law.own[0] if law.own else "?"
+        return "SHAPE", "%s %s" % law.own[0] if law.own else "?", ""
     written = said(room, "written")
     if written.theorems("written"):
-        return "refused", "theorem " + written.theorems("written")
-    return ("SURVIVES", "") if written.proved else ("SHAPE", "%s %s" % written.own[0] if written.own else "?")
+        return "refused", "theorem " + written.theorems("written"), ""
+    return ("SURVIVES", "", "") if written.proved else ("SHAPE", "%s %s" % written.own[0] if written.own else "?", "")
 
 
 def main():
@@ -557,10 +621,14 @@ def main():
     parser.add_argument("words", nargs="*", metavar="WORD")
     args = parser.parse_args()
     changes = [c for c in CHANGES + list(lawful_conjuncts()) if not args.words or any(w in c[0] or w in c[1] or w in c[2] for w in args.words)]
-    rooms, bad = workers(args.jobs), 0
+    rows = Rows()
+    rooms, bad = workers(args.jobs, rows), 0
+    memory = os.path.join(ROOT, "target/mutants/seen.json")
+    seen = json.load(open(memory)) if os.path.exists(memory) else {}
 
     def tried(change):
         name, old, new = change[:3]
+        key = "%s: %s: %s" % (name, old, new)
         room = rooms.get()
         edits = [(name, old, new)]
         if len(change) > 3:
@@ -573,7 +641,7 @@ def main():
                 return "NOT ONE PLACE", change, str(texts[0].count(old))
             for path, text, (_, was, now) in zip(paths, texts, edits):
                 open(path, "w").write(now if was is None else text.replace(was, now))
-            verdict, where = judge(room, name)
+            verdict, where, seen[key] = judge(room, rows, name, seen.get(key))
             return verdict, change, where
         finally:
             for path, text in zip(paths, texts):
@@ -584,6 +652,7 @@ def main():
         for verdict, (name, old, new, *_), where in pool.map(tried, changes):
             if verdict != "refused":
                 bad += 1
+            json.dump(dict(seen), open(memory, "w"), indent=0, ensure_ascii=False)
             print("%-13s %-19s %-60s %s" % (verdict, name, new.replace("\n", " ").strip()[:60], where[:110]), flush=True)
     print("%d changes, %d not refused" % (len(changes), bad))
     sys.exit(1 if bad else 0)

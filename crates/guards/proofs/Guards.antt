@@ -87,7 +87,7 @@ guardRows =
     (spells-nothing (rowWith ((91, "x") ∷ [])), refl) ∷ (spells-nothing (rowWith ((96, "x") ∷ [])), refl) ∷ (spells-nothing (rowWith ((98, "x") ∷ [])), refl) ∷
     (spells-nothing (rowWith ((100, "x") ∷ [])), refl) ∷ (spells-nothing (rowWith ((281, "x") ∷ [])), refl) ∷ (spells-nothing (rowWith ((288, "x") ∷ [])), refl) ∷
     (spells-nothing (rowWith ((290, "x") ∷ [])), refl) ∷ (spells-nothing (rowWith ((299, "x") ∷ [])), refl) ∷ (spells-nothing (rowWith ((92, " x  ") ∷ [])), refl) ∷
-    (spells-nothing (rowWith ((97, "W") ∷ [])), refl) ∷ (spells-nothing (rowWith ((97, "B") ∷ [])), refl) ∷ (spells-nothing (rowWith ((99, "?") ∷ [])), refl) ∷
+    (spells-nothing (rowWith ((97, "W") ∷ [])), refl) ∷ (spells-nothing (rowWith ((97, "B") ∷ [])), refl) ∷ (spells-nothing (rowWith ((97, "x") ∷ [])), refl) ∷ (spells-nothing (rowWith ((99, "?") ∷ [])), refl) ∷
     (spells-nothing (rowWith ((99, "A") ∷ [])), refl) ∷ (spells-nothing (rowWith ((289, "2") ∷ [])), refl) ∷ (wrongKept 11 "NM", refl) ∷ (wrongKept 11 "WNM", refl) ∷
     (wrongKept 11 "G", refl) ∷ (wrongKept 11 "wgm", refl) ∷ (wrongKept 11 "MG", refl) ∷
     -- nine blanks and a byte; and each place of a date

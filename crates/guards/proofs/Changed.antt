@@ -1,0 +1,89 @@
+-- Tables and answer that no accepted file has, over every content: writer and question answer 18, whatever the room, the place and the round. Assumes nothing.
+use mathlib.Core.Path.{_≡_, refl, sym, ap, _∙_, subst}
+use mathlib.Core.Bool.{Bool, true, false, _||_}
+use mathlib.Core.Option.{none}
+use mathlib.Core.List.{List, [], _∷_, map}
+use Prim.Native.Nat.{ℕ, zero, suc, _<_, _≤_}
+use lib.Dec.{eqb, leb}
+use lib.ListN.{length, getD, length-map, List·getD-eq-default}
+use Rattle.kit.specs.Lists.{all, among, flat}
+use Rattle.kit.proofs.Bools.{clash}
+use Rattle.kit.proofs.Firsts.{all-of-at}
+use Rattle.types.specs.declared.Answer.{Answer}
+use Rattle.types.specs.declared.Written.{Written}
+use Rattle.types.specs.declared.Score.{Score}
+use Rattle.types.specs.declared.Place.{Place}
+use Rattle.law.specs.Sizes.{mostPlayers, mostText, mostPoints, isStart}
+use Rattle.law.specs.Heads.{initialColours}
+use Rattle.law.specs.Tournament.{Player}
+use Rattle.law.specs.Text.{ended}
+use Rattle.law.specs.Entries.{noPlayer, entryOf}
+use Rattle.law.specs.Lawful.{LawfulPlayer}
+use Rattle.law.specs.Tables.{Tables, enough, entryCells, placeIn, roundIn, contentOf, answerOf}
+use Rattle.law.specs.Calls.{NoReading, writtenAnswer, Writes, scoreAnswer, Asks}
+use Rattle.law.proofs.Readings.{reading-has}
+use Rattle.law.proofs.Replies.{writeOf, askOf}
+use Rattle.law.proofs.RepliesRight.{writes-as, asks-as}
+
+pub record Denied (answer : Answer) (tables : Tables) : Type 0 where
+  pub writer : (out : List ℕ) (w : Written) (x : List ℕ) → Writes answer tables out w x → w .number ≡ 18
+  pub question : (place : Place) (round : ℕ) (s : Score) → Asks answer tables place round s → s .number ≡ 18
+
+start-at : (l : List Player) (i : ℕ) → getD (map (λ (p : Player). p .start) l) i 0 ≡ getD l i noPlayer .start
+start-at [] i = refl
+start-at (p ∷ l) zero = refl
+start-at (p ∷ l) (suc i) = start-at l i
+
+module _ (answer : Answer) (tables : Tables) (long : enough tables ≡ true) where
+  denied : NoReading answer tables → Denied answer tables
+  unfolding writtenAnswer scoreAnswer
+  denied n =
+      record {
+        writer = λ out w x k. ap (λ (w : Written). w .number) (writes-as answer tables none n out w x k .0) ∙ ap (λ (b : Bool). writeOf b none (length out) .number) long;
+        question = λ place round s k. ap (λ (s : Score). s .number) (asks-as answer tables none n place round s k) ∙ ap (λ (b : Bool). askOf b none (place .0) round .number) long;
+      }
+
+  -- an unused cell that is not zero: of the start numbers, the opponents, the text
+  pub unused-start : (i : ℕ) → answer .players ≤ i → i < mostPlayers → (getD (tables .starts) i 0 ≡ 0 → ⊥) → Denied answer tables
+  unfolding contentOf answerOf
+  unused-start i past inside there = denied (λ file t r.
+      let h = reading-has answer tables file t r .1 in
+      let n : length (t .players) ≤ i = subst (λ (a : Answer). a .players ≤ i) (h .says) past in
+      there (h .holds .starts .cells i inside ∙ start-at (t .players) i ∙ ap (λ (p : Player). p .start) (List·getD-eq-default (t .players) noPlayer n)))
+
+  pub unused-opponent : (i : ℕ) → answer .players ≤ placeIn i → i < entryCells → (getD (tables .opponents) i 0 ≡ 0 → ⊥) → Denied answer tables
+  unfolding contentOf answerOf
+  unused-opponent i past inside there = denied (λ file t r.
+      let h = reading-has answer tables file t r .1 in
+      let n : length (t .players) ≤ placeIn i = subst (λ (a : Answer). a .players ≤ placeIn i) (h .says) past in
+      there (h .holds .opponents .cells i inside ∙ ap (λ (p : Player). entryOf (roundIn i) p .id) (List·getD-eq-default (t .players) noPlayer n)))
+
+  pub unused-text : (i : ℕ) → answer .text ≤ i → i < mostText → (getD (tables .text) i 0 ≡ 0 → ⊥) → Denied answer tables
+  unfolding contentOf answerOf
+  unused-text i past inside there = denied (λ file t r.
+      let h = reading-has answer tables file t r .1 in
+      there (h .holds .text .cells i inside ∙ List·getD-eq-default (flat ended (t .text)) 0 (subst (λ (a : Answer). a .text ≤ i) (h .says) past)))
+
+  -- a player counted who has no start number, as by an answer with one player more
+  pub no-start : (i : ℕ) → i < answer .players → i < mostPlayers → getD (tables .starts) i 0 ≡ 0 → Denied answer tables
+  unfolding contentOf answerOf
+  no-start i counted inside none-there = denied (λ file t r.
+      let k = reading-has answer tables file t r in
+      let h = k .1 in
+      let n : i < length (t .players) = subst (λ (a : Answer). i < a .players) (h .says) counted in
+      let s = all-of-at (LawfulPlayer (t .rounds)) noPlayer (t .players) (k .0 .players) i n .start in
+      let z : getD (t .players) i noPlayer .start ≡ 0 = sym (start-at (t .players) i) ∙ sym (h .holds .starts .cells i inside) ∙ none-there in
+      clash (sym (ap isStart z) ∙ s))
+
+  -- an initial colour that 152 does not give, a value that no points field has
+  pub no-colour : eqb (answer .colour) 0 || among (answer .colour) initialColours ≡ false → Denied answer tables
+  unfolding answerOf
+  no-colour e = denied (λ file t r.
+      let k = reading-has answer tables file t r in
+      clash (sym e ∙ ap (λ (a : Answer). eqb (a .colour) 0 || among (a .colour) initialColours) (k .1 .says) ∙ k .0 .colour))
+
+  pub no-value : all (λ v. leb v mostPoints) (answer .values) ≡ false → Denied answer tables
+  unfolding answerOf
+  no-value e = denied (λ file t r.
+      let k = reading-has answer tables file t r in
+      clash (sym e ∙ ap (λ (a : Answer). all (λ v. leb v mostPoints) (a .values)) (k .1 .says) ∙ k .0 .scoring))
