@@ -1,10 +1,11 @@
 #!/usr/bin/env python3
 """mutate.py [--jobs N] [WORD..]: changes the statement in one place at a time, in copies under target/mutants, and says at which row or theorem each change is refused.
 A change counts as refused where a computed row fails, or where a theorem below no longer holds; an error anywhere else is SHAPE: a proof broke, but nothing was said
-that the change makes false. SHAPE and SURVIVES show a rule that no row and no theorem guards; NOT SAID is a change that says nothing, as of a name out of scope. A change of a function that decides a relation (proofs/..) must be seen
-at a row: it stands for a change that relation and function share. With words, only the changes whose file or text has one of them. N copies at a time, 2 if not said.
-The rows are tried in two parts, the cheap sections first; target/mutants/seen.json keeps at which section a change was refused, which is then tried alone before the rest."""
-import argparse, json, os, re, shutil, subprocess, sys
+that the change makes false. SHAPE and SURVIVES show a rule that no row and no theorem guards; NOT SAID is a change that says nothing, as with a name out of scope.
+A change of a function that decides a relation (proofs/..) must be seen at a row: it stands for a change that relation and function share. With words, only the changes
+whose file or text has one of them. N copies at a time, 2 if not said. First the rows of law are tried, then the cheap sections of those of guards, then the others;
+target/mutants/seen.json keeps the section that refused a change, and this one is tried first the next time."""
+import argparse, json, os, re, shutil, subprocess, sys, time
 from concurrent.futures import ThreadPoolExecutor
 from queue import Queue
 
@@ -58,7 +59,7 @@ CHANGES = [
     ("Text", 'nameCode = ascii "012"', 'nameCode = ascii "022"'),
     ("Text", 'repeatedCode = ascii "112"', 'repeatedCode = ascii "122"'),
     ("Text", '∷ ascii "212" ∷', '∷ ascii "213" ∷'),
-    ("Text", "not (blankFrom (suc afterCode) row)", "not (blankFrom afterCode row)"),
+    ("Text", "not (blankFrom (suc afterCode) row)", "not (blankFrom 6 row)"),
     ("Text", "pub ends : isBlank (lastOr 0 kept) ≡ false", "pub ends : isBlank (lastOr 0 []) ≡ false"),
     ("Text", "pub gap : isBlank (col row afterCode) ≡ true", "pub gap : isBlank (col row 6) ≡ true"),
     ("Text", "ended line = line ++ (CR ∷ [])", "ended line = line ++ (CR ∷ CR ∷ [])"),
@@ -89,7 +90,8 @@ CHANGES = [
     ("Accelerations", "firstRoundField = (15, 17)", "firstRoundField = (14, 17)"),
     ("Accelerations", "lastStartField = (28, 31)", "lastStartField = (28, 32)"),
     ("Accelerations", "leb first last′ && leb first′ last", "leb first last′"),
-    ("Accelerations", "(b .«last_round») && overlap", "(b .«last_round») || overlap"),
+    ("Accelerations", "overlap (a .«first_round») (a .«last_round») (b .«first_round») (b .«last_round») && overlap", "overlap"),
+    ("Accelerations", " && overlap (a .«first_start») (a .«last_start») (b .«first_start») (b .«last_start»)", ""),
     ("Accelerations", "between (a .«first_start») (a .«last_start») start", "between (a .«first_start») (a .«last_start») round"),
     # 001
     ("Players", "keptField = (sexField .0, birthField .1)", "keptField = (sexField .0, 80)"),
@@ -137,7 +139,7 @@ CHANGES = [
     ("Entries", '(ascii "0L")) (s .loss)', '(ascii "0L")) (s .absent)'),
     ("Entries", '(ascii "U")) (s .pairing)', '(ascii "U")) (s .win)'),
     # spelling
-    ("Spelling", "isEnded (l .end) && leb", "isEnded (some Rattle.law.specs.Lines.cr) && leb"),
+    ("Spelling", "isEnded (l .end) && leb", "leb"),
     ("Spelling", "ltb (roundsOf items) r && slotAt", "ltb r (roundsOf items) && slotAt"),
     ("Spelling", "pub tournament : t ≡ tournamentOf items", "pub tournament : tournamentOf items ≡ tournamentOf items"),
     ("Spelling", "pub sound : all isSound lines ≡ true", "pub sound : all isSound [] ≡ true"),
@@ -280,7 +282,7 @@ CHANGES = [
     # the tournament
     ("Tournament", 'blankAs (code "-") (s .colour)', 'blankAs (code "w") (s .colour)'),
     ("Tournament", "slotAt r p = getD (p .slots) (r - 1) noSlot", "slotAt r p = getD (p .slots) r noSlot"),
-    ("Tournament", "any (λ p. slotAt r p .used) lines", "all (λ p. slotAt r p .used) lines"),
+    ("Tournament", "any (λ p. slotAt r p .used) lines", "any (λ p. slotAt r p .used) (take 1 lines)"),
     ("Tournament", "points = p .points; rank = p .rank; entries", "points = p .rank; rank = p .points; entries"),
     ("Tournament", "start = p .start; kept = p .kept;", "start = p .rank; kept = p .kept;"),
     ("Tournament", "colour = onlyOr 0 (flat colourIn items)", "colour = onlyOr 66 (flat colourIn items)"),
@@ -356,11 +358,12 @@ CHANGES = [
     ("Calls", "values = map (λ c. 0) letters", "values = map (λ c. 1) letters"),
     ("Calls", "ask-refused : AskRefused answer tables (place .0) round r", "ask-refused : AskRefused answer tables round (place .0) r"),
     # one more of each module
-    ("Accelerations", "between (a .«first_round») (a .«last_round») round &&", "between (a .«first_round») (a .«last_round») round ||"),
+    ("Accelerations", "between (a .«first_round») (a .«last_round») round && between", "between"),
+    ("Accelerations", " && between (a .«first_start») (a .«last_start») start", ""),
     ("Columns", "padded (suc w) [] = blank ∷ padded w []", "padded (suc w) [] = 0 ∷ padded w []"),
     ("Entries", "any (λ q. eqb (q .start) id) (t .players)", "any (λ q. eqb (q .rank) id) (t .players)"),
     ("Entries", "opponent t e = first (λ q. eqb (q .start) (e .id)) (t .players)", "opponent t e = first (λ q. eqb (q .rank) (e .id)) (t .players)"),
-    ("Entries", "asked f none = true", "asked f none = false"),
+    ("Entries", "asked f none = true", "asked f none = Bool.false"),
     ("Fields", "blanks blank)\n  pub digits : all isDigit (first ∷ others)", "blanks blank)\n  pub digits : all isDigit others"),
     ("Heads", "pub number-in : n ≤ mostRounds", "pub number-in : n ≤ 19"),
     ("Items", "same (part codeField row) accelerationCode", "same (part codeField row) scoringCode"),
@@ -446,7 +449,7 @@ CHANGES = [
     ("proofs/Replies", "not (ltb place (length (t .players)) && leb 1 round && leb round (t .rounds))", "not (ltb place (length (t .players)) && leb round (t .rounds))"),
     ("proofs/Replies", "not (ltb place (length (t .players)) && leb 1 round && leb round (t .rounds))", "not (leb 1 round && leb round (t .rounds))"),
     ("proofs/Replies", "writeBy o (some d) = writtenAnswer (denialOf d) 0", "writeBy o (some d) = writtenAnswer (denialOf d) 1"),
-    ("proofs/Replies", "bytesBy o (some d) = []", "bytesBy o (some d) = 0 ∷ []"),
+    ("proofs/Replies", "bytesBy o (some d) = []", "bytesBy o (some d) = mathlib.Core.List._∷_ 0 []"),
     ("proofs/Replies", "askBy o place round (some d) = scoreAnswer (denialOf d) 0 0", "askBy o place round (some d) = scoreAnswer (denialOf d) 0 1"),
 ]
 
@@ -514,7 +517,7 @@ class Errors:
                     self.stated += [what] if part == "specs" else []
             r = re.search(r"expected type `(?:mathlib\.Core\.Path\._≡_ \()?test \((.*?)\)+ (?:≡ )?(?:mathlib\.Core\.Bool\.)?true`", line)
             if r and name in ("guardRows", "watchedRows", "computed"):
-                self.rows.append((module, r.group(1)))
+                self.rows.append((module, int(number), r.group(1)))
 
     def reached(self, module, name, wanted):
         """The first wanted name that an error in this one reaches, by parts of one module, or of any if none is given."""
@@ -541,30 +544,40 @@ def said(room, crate):
 
 
 class Rows:
-    """The rows of the crate `guards`, a module a section, in the copy of law: so they are computed even where a proof of law is broken, and no section for a change that it does not reach."""
+    """The rows of the crate `guards` by section, in modules of the copy of law: so they are computed even where a proof of law is broken, and not where a change does not reach them."""
 
     DEAR = ("001 lines", "what a result earns", "once only", "a round's entry")
+    # where the changes of a file fail, if they were not tried before
+    LIKELY = {"Players": "001 lines", "proofs/RecordsRead": "lines that spell none", "Lawful": "no row"}
 
     def __init__(self):
         text = open(os.path.join(ROOT, "crates/guards/proofs/Guards.antt")).read()
         text = text.replace("Rattle.law.specs.", "Rattle.law.specs.").replace("Rattle.law.proofs.", "Rattle.law.proofs.")
         at, end = text.index("guardRows =\n") + len("guardRows =\n"), text.index(" ∷ []\n\npub guarded")
-        sections = re.findall(r"(?ms)^    -- ---- (.*?)\n(.*?)(?: ∷)?\s*(?=^    -- ---- |\Z)", text[at:end])
-        self.titles = {"Guards%d" % i: title for i, (title, _) in enumerate(sections)}
-        self.texts = {"Guards%d" % i: text[:at] + rows + text[end:] for i, (_, rows) in enumerate(sections)}
-        self.all = list(self.titles)
-        self.cheap = [m for m in self.all if not self.titles[m].startswith(self.DEAR)]
+        self.head, self.tail = text[:at], text[end:]
+        self.sections = dict(re.findall(r"(?ms)^    -- ---- (.*?)\n(.*?)(?: ∷)?\s*(?=^    -- ---- |\Z)", text[at:end]))
+        dear = [t for t in self.sections if t.startswith(self.DEAR)]
+        self.parts = {"GuardsCheap": [t for t in self.sections if t not in dear], "GuardsDear": dear}
         self.modules = "".join(l for l in open(os.path.join(ROOT, "crates/law/proofs/Lib.antt")) if LEFT_OUT not in l)
 
-    def write(self, room, modules):
+    def write(self, room, parts):
+        """Modules and the sections in each; the first row that fails ends its module."""
         proofs = os.path.join(room, "crates/law/proofs")
-        for m in self.all:
-            path = os.path.join(proofs, m + ".antt")
-            if m in modules:
-                open(path, "w").write(self.texts[m])
+        for module in ("GuardsSeen", *self.parts):
+            path = os.path.join(proofs, module + ".antt")
+            if module in parts:
+                open(path, "w").write(self.head + " ∷\n".join(self.sections[t] for t in parts[module]) + self.tail)
             elif os.path.exists(path):
                 os.remove(path)
-        open(os.path.join(proofs, "Lib.antt"), "w").write(self.modules + "".join("pub mod %s\n" % m for m in modules))
+        open(os.path.join(proofs, "Lib.antt"), "w").write(self.modules + "".join("pub mod %s\n" % m for m in parts))
+
+    def section(self, titles, line):
+        """In which of a module's sections a line stands."""
+        at = self.head.count("\n")
+        for t in titles:
+            at += self.sections[t].count("\n") + 1
+            if line <= at:
+                return t
 
 
 def workers(n, rows):
@@ -579,7 +592,7 @@ def workers(n, rows):
         os.remove(os.path.join(room, "crates/law/proofs", LEFT_OUT + ".antt"))
         lines = open(os.path.join(ROOT, "crates.txt")).read().split("\n")
         open(os.path.join(room, "crates.txt"), "w").write("\n".join(l for l in lines if l.split(":")[0] in KEEP) + "\n")
-        rows.write(room, rows.all)
+        rows.write(room, rows.parts)
         if not said(room, "law").proved:
             sys.exit("mutate: the unchanged statement is not proved")
         shutil.rmtree(os.path.join(room, "kept"), ignore_errors=True)
@@ -589,17 +602,19 @@ def workers(n, rows):
 
 
 def judge(room, rows, name, seen):
-    """Verdict, place, and the module of the row: rows first, then theorems of law, then theorems of written."""
+    """Verdict, place, and the section of the row: rows first, then theorems of law, then theorems of written."""
     # every change starts from what the checker has kept of the unchanged statement
     shutil.rmtree(os.path.join(room, "target/inc/law"))
     shutil.copytree(os.path.join(room, "kept"), os.path.join(room, "target/inc/law"))
-    for modules in ([m for m in rows.all if m == seen], rows.cheap, rows.all):
-        rows.write(room, modules)
+    first = {"GuardsSeen": [seen]} if seen in rows.sections else {}
+    for parts in (first, {"GuardsCheap": rows.parts["GuardsCheap"]}, rows.parts):
+        rows.write(room, parts)
         law = said(room, "law")
         if law.stated:
             return "NOT SAID", law.stated[0], ""
         if law.rows:
-            return "refused", "row " + law.rows[0][1], law.rows[0][0]
+            module, line, text = law.rows[0]
+            return "refused", "row " + text, rows.section(parts[module], line) if module in parts else module
         # no row saw it the last time, and a theorem does
         if seen == "no row" and law.theorems("law"):
             break
@@ -622,7 +637,8 @@ def main():
     args = parser.parse_args()
     changes = [c for c in CHANGES + list(lawful_conjuncts()) if not args.words or any(w in c[0] or w in c[1] or w in c[2] for w in args.words)]
     rows = Rows()
-    rooms, bad = workers(args.jobs, rows), 0
+    start, found = time.time(), {"row": 0, "theorem": 0, "not": 0}
+    rooms = workers(args.jobs, rows)
     memory = os.path.join(ROOT, "target/mutants/seen.json")
     seen = json.load(open(memory)) if os.path.exists(memory) else {}
 
@@ -641,7 +657,7 @@ def main():
                 return "NOT ONE PLACE", change, str(texts[0].count(old))
             for path, text, (_, was, now) in zip(paths, texts, edits):
                 open(path, "w").write(now if was is None else text.replace(was, now))
-            verdict, where, seen[key] = judge(room, rows, name, seen.get(key))
+            verdict, where, seen[key] = judge(room, rows, name, seen.get(key) or rows.LIKELY.get(name))
             return verdict, change, where
         finally:
             for path, text in zip(paths, texts):
@@ -650,12 +666,11 @@ def main():
 
     with ThreadPoolExecutor(args.jobs) as pool:
         for verdict, (name, old, new, *_), where in pool.map(tried, changes):
-            if verdict != "refused":
-                bad += 1
+            found[where.split()[0] if verdict == "refused" else "not"] += 1
             json.dump(dict(seen), open(memory, "w"), indent=0, ensure_ascii=False)
             print("%-13s %-19s %-60s %s" % (verdict, name, new.replace("\n", " ").strip()[:60], where[:110]), flush=True)
-    print("%d changes, %d not refused" % (len(changes), bad))
-    sys.exit(1 if bad else 0)
+    print("%d changes: %d refused at a row, %d at a theorem, %d not refused; %d minutes" % (len(changes), *found.values(), (time.time() - start) // 60))
+    sys.exit(1 if found["not"] else 0)
 
 
 main()

@@ -48,7 +48,7 @@ guardRows =
     (right "", refl) ∷ (right "   ", refl) ∷ (right "### any", refl) ∷ (right "162  W 3.0    D 1.0", refl) ∷ (right "162  X10.5   ", refl) ∷
     (right "162  W 1.0    D 0.5    L 0.0    A 0.0    P 1.0    X 0.5    ", refl) ∷ (right "250       1.0   1  20    1 9999", refl) ∷
     (right "250      01.0 003 003 0090 0090  ", refl) ∷ (right "250      99.9 020 020 9999 9999", refl) ∷ (right "142 0", refl) ∷ (right "142 007  ", refl) ∷
-    (right "142 20", refl) ∷ (right "152 W", refl) ∷ (right "152 B   ", refl) ∷ (right "012 Cup", refl) ∷ (right "022", refl) ∷ (right "022    ", refl) ∷
+    (right "142 20", refl) ∷ (right "152 W", refl) ∷ (right "152 B   ", refl) ∷ (right "012 Cup", refl) ∷ (right "012 C", refl) ∷ (right "022", refl) ∷ (right "022    ", refl) ∷
     (right "022 x", refl) ∷ (right "032 x", refl) ∷ (right "042 x", refl) ∷ (right "052 x", refl) ∷ (right "062 x", refl) ∷ (right "072 x", refl) ∷ (right "092 x", refl) ∷
     (right "102 x", refl) ∷ (right "112 x", refl) ∷ (right "122 x", refl) ∷ (right "132 x", refl) ∷ (right "192 x", refl) ∷ (right "202 x", refl) ∷ (right "212 x", refl) ∷
     (right "222 x", refl) ∷ (right "162  D99.9    L10.0", refl) ∷ (right "162  A 0.0    P 0.0    X 0.0", refl) ∷ (right "112", refl) ∷
@@ -69,7 +69,7 @@ guardRows =
     (wrong "162  Wx1.0", refl) ∷ (wrong "162  W 1.0    Dx", refl) ∷ (wrong "162  W  1.0", refl) ∷ (wrong "162  A 1.0    A 1.0", refl) ∷ (wrong "162  W 1:0", refl) ∷
     (wrong "250      01.0 001 003 0001 0000", refl) ∷ (wrong "250         0 001 003 0001 0090", refl) ∷ (wrong "250      01.0     003 0001 0090", refl) ∷
     (wrong "250      01.0 001     0001 0090", refl) ∷ (wrong "250      01.0 001 003      0090", refl) ∷ (wrong "142 1x", refl) ∷ (wrong "142 /", refl) ∷
-    (wrong "142 :", refl) ∷ (wrong "152 X", refl) ∷ (wrong "152 b", refl) ∷ (wrong "152 W x", refl) ∷ (wrong "## 4", refl) ∷ (wrong "001", refl) ∷
+    (wrong "142 :", refl) ∷ (wrong "152 X", refl) ∷ (wrong "152 b", refl) ∷ (wrong "152 W x", refl) ∷ (wrong "## 4", refl) ∷ (wrong "    x", refl) ∷ (wrong "001", refl) ∷
     -- ---- 001 lines
     (spells (rowWith []), refl) ∷ (spells (rowWith ((92, "9999 b -") ∷ [])), refl) ∷ (spells (rowWith ((282, "0000 - z") ∷ [])), refl) ∷ (rightKept 10 "m", refl) ∷
     (rightKept 10 "w", refl) ∷ (wrongKept 10 "M", refl) ∷ (wrongKept 10 "f", refl) ∷ (rightKept 11 "GM", refl) ∷ (rightKept 11 "IM", refl) ∷ (rightKept 11 "WGM", refl) ∷
@@ -200,7 +200,7 @@ guardRows =
     (accepts (two " 0.5" "   2 b d" " 0.5" "   1 w D") 2 1 0, refl) ∷ (accepts (two " 0.5" "   2 b =" " 0.5" "   1 w =") 2 1 0, refl) ∷
     -- neither bye nor game
     (refuses (two " 0.0" "   2 w  " " 0.0" "   1 b 0") 12 2 1, refl) ∷ (refuses (two " 0.0" "   2   1" " 0.0" "   1 b 0") 12 2 1, refl) ∷
-    (refuses (two " 0.0" "   2 - 1" " 0.0" "   1 b 0") 12 2 1, refl) ∷ (refuses (two " 0.0" "   2 w H" " 0.0" "   1 b 0") 12 2 1, refl) ∷
+    (refuses (two " 0.0" "   2 - 1" " 0.0" "   1 b 0") 12 2 1, refl) ∷ (refuses (two " 0.0" "   2 - Z" " 0.0" "0000 - Z") 12 2 1, refl) ∷ (refuses (two " 0.0" "   2 w H" " 0.0" "   1 b 0") 12 2 1, refl) ∷
     (refuses (two " 0.0" "   3 w 1" " 0.0" "   1 b 0") 12 2 1, refl) ∷ (refuses (two " 0.0" "0000 w Z" " 0.0" "0000 - Z") 12 2 1, refl) ∷
     (refuses (two " 0.0" "0000 - -" " 0.0" "0000 - Z") 12 2 1, refl) ∷ (refuses (two " 0.0" "0000 - 1" " 0.0" "0000 - Z") 12 2 1, refl) ∷
     (refuses (two " 0.0" "     w  " " 0.0" "        ") 12 2 1, refl) ∷
