@@ -431,7 +431,6 @@ CHANGES = [
     ("proofs/RecordsRead", "    when (elseBlank afterCode playerFields row && isKept (part keptField row))\n", "    when (isKept (part keptField row))\n"),
     ("proofs/RecordsRead", "(pair (keep (between 1 mostStart) (numberIn startField row)) (pointsIn pointsField row))", "(pair (numberIn startField row) (pointsIn pointsField row))"),
     ("proofs/RecordsRead", "(pair (keep (between 1 mostRank) (numberIn rankField row)) (slotsOf row))", "(pair (numberIn rankField row) (slotsOf row))"),
-    ("proofs/Cut", "endFor true = some crlf", "endFor true = some cr"),
     ("proofs/Cut", "step true isCR c e rest = rest", "step true isCR c e rest = push c rest"),
     ("proofs/Faults", "testLine bad-byte before l = not (all allowed (l .text))", "testLine bad-byte before l = false"),
     ("proofs/Faults", "testLine no-CR before l = not (isEnded (l .end))", "testLine no-CR before l = false"),
@@ -624,6 +623,7 @@ def judge(room, rows, name, seen):
         return "refused", "theorem " + law.theorems("law"), "no row"
     if not law.proved:
         return "SHAPE", "%s %s" % law.own[0] if law.own else "?", ""
+    rows.write(room, {})
     written = said(room, "written")
     if written.theorems("written"):
         return "refused", "theorem " + written.theorems("written"), ""
