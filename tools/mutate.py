@@ -471,6 +471,9 @@ THEOREMS = {
     "FieldsRead": ("number", "number-or-blank", "points", "leading", "trimmed"),
     "RecordsRead": ("text-line", "rounds-line", "colour-line", "value", "scoring-line", "acceleration-line", "kept-columns", "slot", "player-line", "item"),
     "Faults": ("faults", "lines-spelled"),
+    # the lines have no fault exactly where each is sound, spells an item, and repeats and exceeds nothing; the players of a tournament differ exactly where their lines do
+    "LinesRead": ("lines-good", "good-lines"),
+    "NewAndFew": ("differ-same",),
 }
 # of the crate written: whatever breaks in it is a part of these
 WRITTEN = ("written-spells", "written-long", "written-accepted")
