@@ -198,6 +198,8 @@ guardRows =
     (accepts (cup ++ person "   1" " 0.0" "   1" ((219, "z") ∷ [])) 1 13 0, refl) ∷ (accepts (cup ++ person "   1" " 0.0" "   1" ((289, "Z") ∷ [])) 1 20 0, refl) ∷
     (accepts (two " 1.0" "   2 b w" " 0.0" "   1 w L") 2 1 0, refl) ∷ (accepts (two " 0.0" "   2 b 0" " 1.0" "   1 w 1") 2 1 0, refl) ∷
     (accepts (two " 0.5" "   2 b d" " 0.5" "   1 w D") 2 1 0, refl) ∷ (accepts (two " 0.5" "   2 b =" " 0.5" "   1 w =") 2 1 0, refl) ∷
+    -- an entry names a start number, not a rank
+    (accepts (cup ++ (person "   1" " 1.0" "   2" ((92, "   2 w 1") ∷ []) ++ person "   2" " 0.0" "   1" ((92, "   1 b 0") ∷ []))) 2 1 0, refl) ∷
     -- neither bye nor game
     (refuses (two " 0.0" "   2 w  " " 0.0" "   1 b 0") 12 2 1, refl) ∷ (refuses (two " 0.0" "   2   1" " 0.0" "   1 b 0") 12 2 1, refl) ∷
     (refuses (two " 0.0" "   2 - 1" " 0.0" "   1 b 0") 12 2 1, refl) ∷ (refuses (two " 0.0" "   2 - Z" " 0.0" "0000 - Z") 12 2 1, refl) ∷ (refuses (two " 0.0" "   2 w H" " 0.0" "   1 b 0") 12 2 1, refl) ∷
