@@ -1,7 +1,7 @@
 #!/usr/bin/env python3
 """mutate.py [--jobs N] [WORD..]: changes the statement in one place at a time, in copies under target/mutants, and says at which row or theorem each change is refused.
 A change counts as refused where a computed row fails, or where a theorem below no longer holds; an error anywhere else is SHAPE: a proof broke, but nothing was said
-that the change makes false. SHAPE and SURVIVES show a rule that no row and no theorem guards; NOT SAID is a change that says nothing, as with a name out of scope.
+that the change makes false. So where no row fails the same text is tried with one part spelled otherwise, and must be proved, or the theorem broke by its shape. SHAPE and SURVIVES show a rule that no row and no theorem guards; NOT SAID is a change that says nothing, as with a name out of scope.
 A change of a function that decides a relation (proofs/..) must be seen at a row: it stands for a change that relation and function share. With words, only the changes
 whose file or text has one of them. N copies at a time, 2 if not said. First the rows of law are tried, then the cheap sections of those of guards, then the others;
 target/mutants/seen.json keeps the section that refused a change, and this one is tried first the next time."""
@@ -501,6 +501,24 @@ def lawful_conjuncts():
             yield ("Lawful", m.group(0), "  pub %s : Unit {0}\n" % m.group(1), ("proofs/" + module, proof[:at], " tt", proof[field_end(proof, at):]))
 
 
+def equal(text):
+    """The same text with one of its parts spelled otherwise."""
+    spelled = (
+        (r"≡ true", lambda m: "≡ mathlib.Core.Bool.not mathlib.Core.Bool.false"),
+        (r"≡ false", lambda m: "≡ mathlib.Core.Bool.not mathlib.Core.Bool.true"),
+        (r'\(?code "(.)"\)?', lambda m: str(ord(m.group(1)))),
+        (r"(?<![\w.-])blank(?![\w-])", lambda m: "32"),
+        (r"(?<![\w.«{-])([1-9]\d*)(?![\w»-])", lambda m: "(Prim.Native.Nat.suc %d)" % (int(m.group(1)) - 1)),
+        (r"\b(\w+ \.\w+)", lambda m: "(%s)" % m.group(1)),
+        (r"^( *pub \S+ : )(.+)$", lambda m: "%s(%s)" % m.groups()),
+        (r"^(.+ = )(.+)$", lambda m: "%s(%s)" % m.groups()),
+    )
+    for form, other in spelled:
+        if re.search(form, text):
+            return re.sub(form, other, text, count=1)
+    return text
+
+
 class Errors:
     """What the checker said of a crate: its rows that fail, its own errors, and which error each of the others follows from."""
 
@@ -661,6 +679,12 @@ def main():
             for path, text, (_, was, now) in zip(paths, texts, edits):
                 open(path, "w").write(now if was is None else text.replace(was, now))
             verdict, where, seen[key] = judge(room, rows, name, seen.get(key) or rows.LIKELY.get(name))
+            if where.startswith("theorem "):
+                for path, text in zip(paths, texts):
+                    open(path, "w").write(text.replace(old, equal(old)) if path == paths[0] else text)
+                rows.write(room, {})
+                if not said(room, "law").proved or not said(room, "written").proved:
+                    return "SHAPE", change, where[8:] + ", and an equal change breaks it too"
             return verdict, change, where
         finally:
             for path, text in zip(paths, texts):

@@ -1,5 +1,5 @@
--- Rows of our own, each with its computation beside it, so that a row that fails is named by its text: each guards a rule that no marked row and no theorem
--- guards. `Watched` of `law` has some more. Assumes nothing.
+-- Rows of our own, each with its computation beside it, so that a row that fails is named by its text: each guards a rule of the statement. `Watched` of `law`
+-- has some more. Assumes nothing.
 use mathlib.Core.Path.{refl}
 use mathlib.Core.List.{List, [], _∷_, _++_}
 use Prim.Native.Nat.{ℕ}
@@ -22,7 +22,7 @@ use Rattle.law.specs.Writing.{writtenLines, written, earnedBefore, acceleration
 use Rattle.law.specs.Calls.{refusedAnswer, writtenAnswer, scoreAnswer}
 use Rattle.law.proofs.RecordsRead.{itemOf}
 use Rattle.law.proofs.Judges.{outcomeOf}
-use Rattle.law.proofs.Rows.{starts, points, ranks, results, text, lines, added, first-rounds, last-rounds, first-starts, last-starts, initial-colour, value, as-left, cut-short, Row, refuses, accepts, answers, scores, stores, writes, asks, fitting, spells, spells-nothing, RowHolds, test, Computed}
+use Rattle.law.proofs.Rows.{starts, points, ranks, added, first-rounds, last-rounds, first-starts, last-starts, initial-colour, value, as-left, cut-short, Row, refuses, accepts, answers, scores, stores, writes, asks, fitting, spells, spells-nothing, RowHolds, test, Computed}
 use Rattle.law.proofs.Samples.{all-computed}
 use Rattle.law.proofs.Marked.{line, cup, roe, poe, sampleT}
 use Rattle.law.proofs.Layouts.{put, person, keptRow, rowWith, rowOfTexts, crlf-line, alone, two, twoAt, after, note, fullText, scoring, roeLine, event, eventWritten, highest, accelerated, wrongSum}
@@ -120,7 +120,7 @@ guardRows =
     -- ---- the question
     (asks as-left accelerated ((0, 2, 0, 0, 0) ∷ (1, 1, 0, 0, 0) ∷ (1, 2, 0, 0, 125) ∷ (1, 3, 0, 0, 125) ∷ (1, 4, 0, 0, 0) ∷ (2, 3, 0, 0, 125) ∷ (3, 2, 0, 0, 0) ∷ (3, 5, 20, 0, 0) ∷ (4, 4, 20, 0, 0) ∷ []), refl) ∷
     (asks as-left (after []) ((0, 1, 20, 0, 0) ∷ []), refl) ∷
-    -- ---- the writer: exact room, more room, one byte short, no room; and the highest numbers
+    -- ---- the writer: twenty rounds, and the highest numbers
     (
       writes as-left (two " 1.0" "   2 w +" " 0.0" "   1 b -" ++ line "142 020")
           ((
@@ -170,7 +170,7 @@ guardRows =
     (refuses (ascii "013" ++ (replicate 510 120 ++ (13 ∷ []))) 5 1 0, refl) ∷ (refuses (ascii "012" ++ replicate 510 120) 4 1 0, refl) ∷
     (refuses (line "013 x" ++ line "\t") 6 1 0, refl) ∷ (refuses (line "###x" ++ (cup ++ line " ###")) 6 3 0, refl) ∷ (refuses (line "01") 6 1 0, refl) ∷
     (refuses (line "013x") 6 1 0, refl) ∷ (refuses (line "012x") 7 1 0, refl) ∷ (refuses (line "082 1") 6 1 0, refl) ∷ (refuses (cup ++ line "352 WBWB") 6 2 0, refl) ∷
-    -- ---- once only, and the order of 7, 8, 10, 11, 17, 12
+    -- ---- once only, and the order of 7, 8, 10, 17, 12
     (refuses (line "022 a" ++ line "022 b") 8 2 0, refl) ∷ (accepts (cup ++ (line "112 a" ++ (line "112 a" ++ alone))) 1 0 0, refl) ∷
     (refuses (cup ++ line "012") 7 2 0, refl) ∷ (refuses (line "142 1" ++ line "142 1") 8 2 0, refl) ∷ (refuses (line "152 W" ++ line "152 B") 8 2 0, refl) ∷
     (refuses (line "162  W 1.0" ++ line "162  D 1.0") 8 2 0, refl) ∷ (refuses (person "   7" " 0.0" "   1" [] ++ person "0007" " 0.0" "   2" []) 8 2 0, refl) ∷
@@ -190,7 +190,7 @@ guardRows =
     (refuses (after (line "250      01.0 001 002 0001 0005" ++ line "250      01.0 002 003 0005 0009")) 17 3 0, refl) ∷
     (refuses (after (line "250      01.0 001 009 0001 0009" ++ line "250      01.0 004 004 0004 0004")) 17 3 0, refl) ∷
     (refuses (after (line "250      01.0 001 001 0001 0001" ++ (line "250      01.0 002 002 0001 0001" ++ (line "250      01.0 001 001 0001 0001" ++ line "250      01.0 002 002 0001 0001")))) 17 4 0, refl) ∷
-    -- ---- text up to 2,048 bytes; then 8 before 9
+    -- ---- text up to 2,048 bytes
     (refuses fullText 10 0 0, refl) ∷ (refuses (fullText ++ line "112") 9 6 0, refl) ∷
     -- ---- a round's entry
     -- byes in every spelling, small letters, an id of 0
@@ -218,7 +218,7 @@ guardRows =
     -- the first player with a fault, then the lowest round
     (refuses (cup ++ (person "   1" " 0.0" "   1" ((92, "0000 - U  0000 - U") ∷ []) ++ (person "   2" " 0.0" "   2" ((102, "0000 - U") ∷ []) ++ person "   3" " 0.0" "   3" ((92, "0000 - U") ∷ [])))) 15 3 2, refl) ∷
     (refuses (cup ++ person "   1" " 0.0" "   1" ((92, "0000 - Z     1 w 1     1 w 1") ∷ [])) 12 2 2, refl) ∷
-    -- not mutual: both black; the opponent's entry of another round; from the third line, in the last round
+    -- not mutual: the opponent's entry of another round; from the third line, in the last round
     (refuses (cup ++ (person "   1" " 1.0" "   1" ((92, "   2 w 1") ∷ []) ++ person "   2" " 0.0" "   2" ((102, "   1 b 0") ∷ []))) 13 2 1, refl) ∷
     (refuses (cup ++ (person "   1" " 0.0" "   1" [] ++ (person "   2" " 0.0" "   2" [] ++ person "   3" " 0.0" "   3" ((282, "   1 w 1") ∷ [])))) 13 4 20, refl) ∷
     -- in later rounds

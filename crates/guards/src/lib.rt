@@ -1,1 +1,1 @@
-// Proofs alone: rows, each of which guards a rule of the statement that no theorem guards. No function.
+// Proofs alone: rows and laws that guard rules of the statement, each of which a slip in a definition would break. No function.
