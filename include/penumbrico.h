@@ -9,9 +9,10 @@
 #define PENUMBRICO_H
 
 /* The version of this header and of what the calls answer, for people and for #if (10000 a first number, 100 a second, 1 a third). The first moves where a
-   caller must change: a struct, a size, a call or the meaning of an answer. The second moves where the box carries more, the third where neither does. */
-#define TRF_VERSION "1.0.0"
-#define TRF_VERSION_NUMBER 10000
+   caller must change: a struct, a size, a call or what a part of an answer means. The second moves where the box carries more or gives a file another
+   answer, the third where neither does. */
+#define TRF_VERSION "1.1.0"
+#define TRF_VERSION_NUMBER 10100
 
 #ifdef PENUMBRICO_NO_HEADERS /* for a compiler without the C library's headers: the names that gcc and clang have built in */
 typedef __UINT8_TYPE__ uint8_t;
@@ -107,7 +108,8 @@ typedef struct {
 } trf_acceleration;
 
 /* What a reading answers: the refusal with its line and round, all else 0; or 0 in those three, and the counts, the bytes of kept text, the initial
-   colour ('W', 'B' or 0) and the values of W D L A P X in tenths. */
+   colour ('W', 'B' or 0) and the values of W D L A P X in tenths. A letter that the file's 162 does not give has its default (10, 5, 0, 0 for W D L A), P the
+   event's own W and X its own D. */
 typedef struct {
     uint32_t number;
     trf_line line;

@@ -9,6 +9,7 @@ use Rattle.law.proofs.Marked.{marked}
 use Rattle.written.proofs.Lengths.{written-long}
 use Rattle.written.proofs.Readings.{one-reading, writes-once, asks-once}
 use Rattle.demands.specs.Demands.{Demand-1, Demand-2, Demand-3}
+use Rattle.demands.proofs.OwnValues.{default-values, own-pairing, own-unknown}
 use Rattle.demands.proofs.ReadBack.{read-back}
 use Rattle.demands.proofs.OfReadings.{read-number, read-first, read-short, read-exactly, read-columns, accepts-exactly, read-held, spelled, read-each}
 use Rattle.demands.proofs.OfWritings.{write-number, write-first, write-untouched, write-exactly, write-short, write-bytes, write-spells, ask-number, ask-first, ask-exactly, ask-short, ask-values}
@@ -42,6 +43,9 @@ demand-2 =
     record {
       columns = read-columns;
       worths = λ s. refl;
+      default-values = default-values;
+      own-pairing = own-pairing;
+      own-unknown = own-unknown;
       reading-refusals = read-exactly;
       writing-refusals = write-exactly;
       question-refusals = ask-exactly;

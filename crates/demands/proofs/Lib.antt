@@ -1,4 +1,5 @@
 pub mod WrongReaders
+pub mod OwnValues
 pub mod ReadBack
 pub mod OfReadings
 pub mod OfWritings

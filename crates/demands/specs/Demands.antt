@@ -6,9 +6,10 @@ use mathlib.Core.Logic.{_↔_}
 use mathlib.Core.Bool.{true, false}
 use mathlib.Core.List.{List, [], _∷_, _++_, map}
 use Prim.Native.Nat.{ℕ, _≤_, _<_}
+use Prim.Native.Char.{code}
 use lib.ListN.{length, getD, take, drop}
 use Rattle.kit.specs.Ascii.{ascii}
-use Rattle.kit.specs.Lists.{among, Each}
+use Rattle.kit.specs.Lists.{among, flat, onlyOr, Each}
 use Rattle.kit.specs.First.{AllOf, FirstIn}
 use Rattle.types.specs.declared.Answer.{Answer}
 use Rattle.types.specs.declared.Written.{Written}
@@ -16,11 +17,11 @@ use Rattle.types.specs.declared.Score.{Score}
 use Rattle.types.specs.declared.Place.{Place}
 use Rattle.law.specs.Sizes.{mostFile, mostPlayers, mostAccelerations, mostText}
 use Rattle.law.specs.Lines.{Line, Lines}
-use Rattle.law.specs.Scoring.{Scoring}
+use Rattle.law.specs.Scoring.{Scoring, lettersOf}
 use Rattle.law.specs.Accelerations.{accelerationCode}
 use Rattle.law.specs.Players.{playerCode}
 use Rattle.law.specs.Items.{Item}
-use Rattle.law.specs.Tournament.{Tournament, tournamentOf}
+use Rattle.law.specs.Tournament.{Tournament, scoringIn, tournamentOf}
 use Rattle.law.specs.Entries.{worth}
 use Rattle.law.specs.Lawful.{Lawful, noAcceleration}
 use Rattle.law.specs.Spelling.{SpellsLine, SpellsFile}
@@ -67,6 +68,10 @@ pub record Demand-1 : Type 0 where
   pub writing-short : EveryWriting (λ a tables before w after. enough tables ≡ false → (w ≡ writtenAnswer (refusal 1 0 0) 0) × (after ≡ before))
   pub question-short : EveryQuestion (λ a tables place round s. enough tables ≡ false → s ≡ scoreAnswer (refusal 1 0 0) 0 0)
 
+-- ---- a letter that is "not given in 162": no slot of a 162 among the items has it
+abbrev pub NotGiven : ℕ → List Item → Type 0
+NotGiven letter items = among letter (lettersOf (onlyOr [] (flat scoringIn items))) ≡ false
+
 pub record Demand-2 : Type 0 where
   -- "Reading [..] follow[s] document 01: every column": an accepted file's lines spell items, column by column (`SpellsItem`), and the answer and every cell, line numbers
   -- too, are those of what the items say together
@@ -75,6 +80,12 @@ pub record Demand-2 : Type 0 where
   -- "every result code's worth", by which 16 tests the points (`statesSum`) and a question is answered (`values`)
   pub worths : (s : Scoring) → map (worth s) (ascii "1W+F=DH0L-ZU")
       ≡ s .win ∷ s .win ∷ s .win ∷ s .win ∷ s .draw ∷ s .draw ∷ s .draw ∷ s .loss ∷ s .loss ∷ s .absent ∷ s .absent ∷ s .pairing ∷ []
+  -- "A letter that is not given keeps its default: W 1.0, D 0.5, L 0.0, A 0.0", in what the items say together (`columns`)
+  pub default-values : (items : List Item) → (NotGiven (code "W") items → tournamentOf items .scoring .win ≡ 10) × (NotGiven (code "D") items → tournamentOf items .scoring .draw ≡ 5)
+      × (NotGiven (code "L") items → tournamentOf items .scoring .loss ≡ 0) × (NotGiven (code "A") items → tournamentOf items .scoring .absent ≡ 0)
+  -- and document 02: "a P or X not given in 162 takes the event's own W or D, given or default"
+  pub own-pairing : (items : List Item) → NotGiven (code "P") items → tournamentOf items .scoring .pairing ≡ tournamentOf items .scoring .win
+  pub own-unknown : (items : List Item) → NotGiven (code "X") items → tournamentOf items .scoring .unknown ≡ tournamentOf items .scoring .draw
   -- "every refusal with its place": given exactly when it is the first fault
   pub reading-refusals : EveryReading (λ file before a after. (x : Refusal) → (a ≡ refusedAnswer x) ↔ Refused (enoughLent before) file x)
   pub writing-refusals : EveryWriting (λ a tables before w after. (d : Denial) → (w ≡ writtenAnswer (denialOf d) 0) ↔ FirstIn (WriterDenies a tables (length before)) writerDenials d)

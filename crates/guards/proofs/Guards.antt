@@ -25,7 +25,7 @@ use Rattle.law.proofs.Judges.{outcomeOf}
 use Rattle.law.proofs.Rows.{starts, points, ranks, added, first-rounds, last-rounds, first-starts, last-starts, initial-colour, value, as-left, cut-short, Row, refuses, accepts, answers, scores, stores, writes, asks, fitting, spells, spells-nothing, RowHolds, test, Computed}
 use Rattle.law.proofs.Samples.{all-computed}
 use Rattle.law.proofs.Marked.{line, cup, roe, poe, sampleT}
-use Rattle.law.proofs.Layouts.{put, person, keptRow, rowWith, rowOfTexts, crlf-line, alone, two, twoAt, after, note, fullText, scoring, roeLine, event, eventWritten, highest, accelerated, wrongSum}
+use Rattle.law.proofs.Layouts.{put, person, keptRow, rowWith, rowOfTexts, crlf-line, alone, two, twoAt, after, note, fullText, scoring, threePoints, aloneWithU, roeLine, event, eventWritten, highest, accelerated, wrongSum}
 
 -- one line, or a 001 line with one kept text, spells an item or none
 abbrev pub right : String → Row
@@ -40,9 +40,13 @@ rightKept c s = spells (keptRow c s)
 abbrev pub wrongKept : ℕ → String → Row
 wrongKept c s = spells-nothing (keptRow c s)
 
+-- the values of W D L A P X in a file with this 162
+abbrev pub values : String → ℕ → ℕ → ℕ → ℕ → ℕ → ℕ → Row
+values s w d l a p x = stores (after (line s)) ((value, 0, w) ∷ (value, 1, d) ∷ (value, 2, l) ∷ (value, 3, a) ∷ (value, 4, p) ∷ (value, 5, x) ∷ [])
+
 -- ---- the rows
 unfoldable pub guardRows : List Computed
-unfolding put person keptRow rowWith rowOfTexts crlf-line alone two twoAt after note fullText scoring roeLine event eventWritten highest accelerated wrongSum line cup roe poe sampleT test cells flat top scoringOf shares covers kindOf normal usedRounds roundsOf tournamentOf isBye isGame fits keeps worth earned isPast contentOf answerOf isAgain isTooMany linesOf isFileFault labels writtenLines written earnedBefore accelerationFor refusedAnswer writtenAnswer scoreAnswer itemOf outcomeOf
+unfolding put person keptRow rowWith rowOfTexts crlf-line alone two twoAt after note fullText scoring threePoints aloneWithU roeLine event eventWritten highest accelerated wrongSum line cup roe poe sampleT test cells flat top scoringOf shares covers kindOf normal usedRounds roundsOf tournamentOf isBye isGame fits keeps worth earned isPast contentOf answerOf isAgain isTooMany linesOf isFileFault labels writtenLines written earnedBefore accelerationFor refusedAnswer writtenAnswer scoreAnswer itemOf outcomeOf
 guardRows =
     -- ---- lines that spell an item
     (right "", refl) ∷ (right "   ", refl) ∷ (right "### any", refl) ∷ (right "162  W 3.0    D 1.0", refl) ∷ (right "162  X10.5   ", refl) ∷
@@ -133,16 +137,32 @@ guardRows =
       refl,
     ) ∷
     (writes as-left highest ((234, 0, highest) ∷ []), refl) ∷
+    -- six slots, whichever were given; P and X of any size
+    (
+      writes as-left (aloneWithU threePoints " 3.0")
+          ((170, 0, cup ++ (line "142 1" ++ (line "162  W 3.0    D 1.0    L 0.0    A 0.0    P 3.0    X 1.0" ++ person "   1" " 3.0" "   1" ((92, "0000 - U") ∷ [])))) ∷ (169, 19, []) ∷ []),
+      refl,
+    ) ∷ (
+      writes as-left (aloneWithU "162  P 0.4    X 0.6" " 0.4")
+          ((170, 0, cup ++ (line "142 1" ++ (line "162  W 1.0    D 0.5    L 0.0    A 0.0    P 0.4    X 0.6" ++ person "   1" " 0.4" "   1" ((92, "0000 - U") ∷ [])))) ∷ []),
+      refl,
+    ) ∷
     -- ---- the tables and the answer
     (stores (cup ++ (line scoring ++ alone)) ((initial-colour, 0, 0) ∷ (value, 0, 30) ∷ (value, 1, 10) ∷ (value, 2, 2) ∷ (value, 3, 1) ∷ (value, 4, 20) ∷ (value, 5, 7) ∷ []), refl) ∷
-    (accepts event 2 3 2, refl) ∷ (answers event (0 ∷ 0 ∷ 0 ∷ 2 ∷ 3 ∷ 2 ∷ 14 ∷ code "B" ∷ 100 ∷ 15 ∷ 0 ∷ 0 ∷ 10 ∷ 5 ∷ []), refl) ∷
+    (accepts event 2 3 2, refl) ∷ (answers event (0 ∷ 0 ∷ 0 ∷ 2 ∷ 3 ∷ 2 ∷ 14 ∷ code "B" ∷ 100 ∷ 15 ∷ 0 ∷ 0 ∷ 100 ∷ 15 ∷ []), refl) ∷
     (answers (after []) (0 ∷ 0 ∷ 0 ∷ 1 ∷ 0 ∷ 0 ∷ 8 ∷ 0 ∷ 10 ∷ 5 ∷ 0 ∷ 0 ∷ 10 ∷ 5 ∷ []), refl) ∷
     (answers (two " 1.0" "   2 w 1" " 0.0" "   1 w 0") (13 ∷ 2 ∷ 1 ∷ 0 ∷ 0 ∷ 0 ∷ 0 ∷ 0 ∷ 0 ∷ 0 ∷ 0 ∷ 0 ∷ 0 ∷ 0 ∷ []), refl) ∷ (
       stores highest ((starts, 0, 9999) ∷ (points, 0, 999) ∷ (ranks, 0, 9999) ∷ (added, 0, 999) ∷ (first-rounds, 0, 20) ∷ (last-rounds, 0, 20) ∷ (first-starts, 0, 9999) ∷ (added, 1, 105) ∷ (last-rounds, 1, 10) ∷ (first-starts, 1, 1005) ∷ (last-starts, 1, 1050) ∷
           (value, 0, 999) ∷ (value, 1, 105) ∷ (value, 2, 200) ∷ (value, 3, 301) ∷ (value, 4, 402) ∷ (value, 5, 503) ∷ []),
       refl,
     ) ∷
-    (stores (cup ++ (line "162  X 0.7" ++ alone)) ((value, 0, 10) ∷ (value, 1, 5) ∷ (value, 2, 0) ∷ (value, 3, 0) ∷ (value, 4, 10) ∷ (value, 5, 7) ∷ []), refl) ∷
+    -- a P or X that is not given takes the event's own W or D, given or default, wherever these stand; one that is given stands, as 0.0 and as its default too; no other letter follows
+    (values "162  W 3.0" 30 5 0 0 30 5, refl) ∷ (values "162  D 0.7" 10 7 0 0 10 7, refl) ∷ (values "162  L 0.2" 10 5 2 0 10 5, refl) ∷ (values "162  A 0.1" 10 5 0 1 10 5, refl) ∷
+    (values "162  P 0.4" 10 5 0 0 4 5, refl) ∷ (values "162  P 2.0" 10 5 0 0 20 5, refl) ∷ (values "162  X 0.7" 10 5 0 0 10 7, refl) ∷ (values "162  X 0.2" 10 5 0 0 10 2, refl) ∷
+    (values "162  P 0.4    X 0.6" 10 5 0 0 4 6, refl) ∷ (values "162  P 2.0    W 3.0" 30 5 0 0 20 5, refl) ∷ (values "162  X 0.7    D 1.0" 10 10 0 0 10 7, refl) ∷
+    (values "162  X 0.7    A 0.1    L 0.2    D 1.0    W 3.0" 30 10 2 1 30 7, refl) ∷ (values "162  P 2.0    A 0.1    L 0.2    W 3.0    D 1.0" 30 10 2 1 20 10, refl) ∷
+    (values "162  L 0.2    W 3.0    A 0.1    D 1.0" 30 10 2 1 30 10, refl) ∷ (values "162  D 0.0    W 0.0" 0 0 0 0 0 0, refl) ∷
+    (values "162  P 0.0    X 0.0    D 1.0    W 3.0" 30 10 0 0 0 0, refl) ∷ (values "162  W 3.0    D 1.0    P 1.0    X 0.5" 30 10 0 0 10 5, refl) ∷ (values "162  W99.9    D99.8" 999 998 0 0 999 998, refl) ∷
     (stores (cup ++ (line "152 W" ++ alone)) ((initial-colour, 0, code "W") ∷ (value, 0, 10) ∷ (value, 1, 5) ∷ (value, 2, 0) ∷ (value, 3, 0) ∷ (value, 4, 10) ∷ (value, 5, 5) ∷ []), refl) ∷
     -- ---- what a result earns, over rounds and scorings
     (accepts (two " 1.0" "   2 w +" " 0.0" "   1 b -") 2 1 0, refl) ∷
@@ -153,6 +173,9 @@ guardRows =
     (accepts (cup ++ person "   1" " 2.5" "   1" ((92, "0000 - F  0000 - H  0000 - U  0000 - Z") ∷ [])) 1 4 0, refl) ∷
     (refuses (cup ++ (line "162  W50.0" ++ person "   1" " 0.0" "   1" ((92, "0000 - F  0000 - F") ∷ []))) 16 3 0, refl) ∷
     (refuses (two " 1.0" "   2 w 1" " 0.5" "   1 b 0") 16 3 0, refl) ∷
+    -- U in an event of three points for a win: 3.0, not 1.0; P given as its default, P alone, P before W, D alone, P and X alone
+    (refuses (aloneWithU threePoints " 1.0") 16 3 0, refl) ∷ (accepts (aloneWithU "162  W 3.0    D 1.0    P 1.0" " 1.0") 1 1 0, refl) ∷ (accepts (aloneWithU "162  P 2.0" " 2.0") 1 1 0, refl) ∷ (accepts (aloneWithU "162  P 2.0    W 3.0" " 2.0") 1 1 0, refl) ∷ (refuses (aloneWithU "162  P 2.0    W 3.0" " 3.0") 16 3 0, refl) ∷
+    (accepts (aloneWithU "162  D 0.7" " 1.0") 1 1 0, refl) ∷ (accepts (aloneWithU "162  P 0.4    X 0.6" " 0.4") 1 1 0, refl) ∷ (scores (ascii threePoints) (ascii "HFUZ") 70, refl) ∷
     (accepts (cup ++ (line "250      05.0 001 001 0001 0001" ++ person "   1" " 0.0" "   1" ((92, "0000 - Z") ∷ []))) 1 1 1, refl) ∷
     (scores (ascii scoring) (ascii "1") 30, refl) ∷ (scores (ascii scoring) (ascii "W") 30, refl) ∷ (scores (ascii scoring) (ascii "+") 30, refl) ∷
     (scores (ascii scoring) (ascii "F") 30, refl) ∷ (scores (ascii scoring) (ascii "=") 10, refl) ∷ (scores (ascii scoring) (ascii "D") 10, refl) ∷

@@ -57,9 +57,16 @@ fullText = cup ++ (note 508 ++ (note 508 ++ (note 508 ++ note 496)))
 unfoldable pub scoring : String
 scoring = "162  X 0.7    P 2.0    A 0.1    L 0.2    D 1.0    W 3.0"
 
+-- ---- three points for a win, one for a draw; and a file of one player with a U: its 162, and the points that it states
+unfoldable pub threePoints : String
+threePoints = "162  W 3.0    D 1.0"
+
+unfoldable pub aloneWithU : String → String → List ℕ
+aloneWithU scored stated = cup ++ (line scored ++ person "   1" stated "   1" ((92, "0000 - U") ∷ []))
+
 -- ---- an event with most records
 unfoldable pub roeLine : String → List ℕ
-roeLine entries = put 1 ((1, "001") ∷ (5, "  12") ∷ (10, "mGM") ∷ (15, "Roe") ∷ (49, "2401") ∷ (54, "GER") ∷ (58, "12345678901") ∷ (70, "1990/01/02") ∷ (81, "11.0") ∷ (86, "   3") ∷ (92, entries) ∷ []) ++ (13 ∷ [])
+roeLine entries = put 1 ((1, "001") ∷ (5, "  12") ∷ (10, "mGM") ∷ (15, "Roe") ∷ (49, "2401") ∷ (54, "GER") ∷ (58, "12345678901") ∷ (70, "1990/01/02") ∷ (81, "20.0") ∷ (86, "   3") ∷ (92, entries) ∷ []) ++ (13 ∷ [])
 
 unfoldable pub event : List ℕ
 event =
@@ -69,7 +76,7 @@ event =
 -- and what the writer makes of it
 unfoldable pub eventWritten : List ℕ
 eventWritten =
-    line "012 Cup" ++ (line "022 x" ++ (line "142 3" ++ (line "152 B" ++ (line "162  W10.0    D 1.5    L 0.0    A 0.0    P 1.0    X 0.5" ++
+    line "012 Cup" ++ (line "022 x" ++ (line "142 3" ++ (line "152 B" ++ (line "162  W10.0    D 1.5    L 0.0    A 0.0    P10.0    X 1.5" ++
     (line "250      00.5 001 002 0007 9999" ++ (line "250      01.0 003 003 0001 0001" ++ (roeLine "   7 w 1  0000 - U  0000 - Z" ++ person "   7" " 0.0" "   1" ((92, "  12 b 0  0000 - Z  0000 - Z") ∷ []))))))))
 
 -- the highest numbers that lines state

@@ -5,6 +5,7 @@ pub mod Faults
 pub mod LinesRead
 pub mod Seats
 pub mod ColumnLaws
+pub mod Values
 pub mod LinesLawful
 pub mod NewAndFew
 pub mod Accepts

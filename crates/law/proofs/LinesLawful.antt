@@ -2,7 +2,7 @@
 use mathlib.Core.Path.{_≡_, refl, sym, ap, _∙_}
 use mathlib.Core.Bool.{Bool, true, false, cond, _&&_, _||_}
 use mathlib.Core.List.{List, [], _∷_, _++_, append-nil}
-use Prim.Native.Nat.{ℕ, suc, _+_, _-_, _≤_}
+use Prim.Native.Nat.{ℕ, suc, _≤_}
 use Prim.Native.Char.{code}
 use native.Mathlib.Omega.{arith}
 use lib.Dec.{eqb, leb}
@@ -93,15 +93,10 @@ or-small d letter (v ∷ given) l h = go (eqb letter (v .0)) (or-small d letter 
     go true ih = h .0
     go false ih = ih
 
+-- by whatever a letter is worth that is not given, as long as that is small: six values deep, and in each a default that may itself be given
 pub scoring-small : (given : List (ℕ × ℕ)) → Small given → all (λ v. leb v mostPoints) (values (scoringOf given)) ≡ true
 unfolding scoringOf
-scoring-small given h =
-    both (small 10 (code "W") (omega arith))
-    (both (small 5 (code "D") (omega arith))
-    (both (small 0 (code "L") (omega arith)) (both (small 0 (code "A") (omega arith)) (both (small 10 (code "P") (omega arith)) (both (small 5 (code "X") (omega arith)) refl)))))
-  where
-    small : (d letter : ℕ) → d ≤ mostPoints → leb (givenOr d letter given) mostPoints ≡ true
-    small d letter l = le-leb (givenOr d letter given) mostPoints (or-small d letter given l h)
+scoring-small given h = search (both, le-leb, or-small, leb-true) depth 12
 
 -- ---- a player's line by itself
 pub record LawfulLine (p : PlayerLine) : Type 0 where

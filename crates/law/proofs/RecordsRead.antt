@@ -98,10 +98,7 @@ filled-sound (x ∷ xs) l e = go (all isBlank x) refl (filled-sound xs) l e
     go : (b : Bool) → all isBlank x ≡ b → ((m : List (ℕ × ℕ)) → filledFirst xs ≡ some m → FilledFirst xs m) → (l : List (ℕ × ℕ))
         → fillOr b (all (all isBlank) xs) (valueOf x) (filledFirst xs) ≡ some l → FilledFirst (x ∷ xs) l
     go true p ih [] q = both p (when-inv (all (all isBlank) xs) (some []) [] q .0)
-    go true p ih (a ∷ l) q =
-        let u = when-inv (all (all isBlank) xs) (some []) (a ∷ l) q .1 in
-        let z : _≡_ {A = ℕ} 0 1 = cc in
-        absurd (omega arith)
+    go true p ih (a ∷ l) q = absurd (cons-nil (some a) (some l) (sym (when-inv (all (all isBlank) xs) (some []) (a ∷ l) q .1)))
     go false p ih [] q = absurd (cons-nil (valueOf x) (filledFirst xs) q)
     go false p ih (a ∷ l) q = let k = cons-inv (valueOf x) (filledFirst xs) a l q in (value .sound x a (k .0), ih l (k .1))
 

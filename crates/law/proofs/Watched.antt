@@ -21,16 +21,18 @@ use Rattle.law.proofs.Judges.{outcomeOf}
 use Rattle.law.proofs.Rows.{starts, points, ranks, kept, opponents, colours, results, text, lines, added, first-rounds, last-rounds, first-starts, last-starts, text-length, initial-colour, value, as-left, refuses, accepts, stores, writes, asks, RowHolds, test, Computed}
 use Rattle.law.proofs.Samples.{all-computed}
 use Rattle.law.proofs.Marked.{line, cup}
-use Rattle.law.proofs.Layouts.{put, person, crlf-line, alone, two, note, fullText, roeLine, event, eventWritten, wrongSum}
+use Rattle.law.proofs.Layouts.{put, person, crlf-line, alone, two, note, fullText, threePoints, aloneWithU, roeLine, event, eventWritten, wrongSum}
 
 unfoldable pub watchedRows : List Computed
-unfolding put person crlf-line alone two note fullText roeLine event eventWritten wrongSum line cup test cells flat top scoringOf shares covers kindOf normal usedRounds roundsOf tournamentOf isBye isGame fits keeps worth earned isPast contentOf answerOf isAgain isTooMany linesOf isFileFault labels writtenLines written earnedBefore accelerationFor refusedAnswer writtenAnswer scoreAnswer itemOf outcomeOf
+unfolding put person crlf-line alone two note fullText threePoints aloneWithU roeLine event eventWritten wrongSum line cup test cells flat top scoringOf shares covers kindOf normal usedRounds roundsOf tournamentOf isBye isGame fits keeps worth earned isPast contentOf answerOf isAgain isTooMany linesOf isFileFault labels writtenLines written earnedBefore accelerationFor refusedAnswer writtenAnswer scoreAnswer itemOf outcomeOf
 watchedRows =
+    (accepts (aloneWithU threePoints " 3.0") 1 1 0, refl) ∷
+    (stores (aloneWithU threePoints " 3.0") ((value, 0, 30) ∷ (value, 1, 10) ∷ (value, 2, 0) ∷ (value, 3, 0) ∷ (value, 4, 30) ∷ (value, 5, 10) ∷ []), refl) ∷
     (writes as-left wrongSum ((700, 18, []) ∷ (0, 18, []) ∷ []), refl) ∷
-    (asks as-left event ((0, 1, 0, 0, 5) ∷ (0, 2, 0, 100, 5) ∷ (0, 3, 0, 110, 0) ∷ (1, 1, 0, 0, 5) ∷ (1, 3, 0, 0, 0) ∷ (2, 1, 20, 0, 0) ∷ (9, 1, 20, 0, 0) ∷ (0, 0, 20, 0, 0) ∷ (1, 4, 20, 0, 0) ∷ (2, 0, 20, 0, 0) ∷ []), refl) ∷
+    (asks as-left event ((0, 1, 0, 0, 5) ∷ (0, 2, 0, 100, 5) ∷ (0, 3, 0, 200, 0) ∷ (1, 1, 0, 0, 5) ∷ (1, 3, 0, 0, 0) ∷ (2, 1, 20, 0, 0) ∷ (9, 1, 20, 0, 0) ∷ (0, 0, 20, 0, 0) ∷ (1, 4, 20, 0, 0) ∷ (2, 0, 20, 0, 0) ∷ []), refl) ∷
     (writes as-left event ((386, 0, eventWritten) ∷ (400, 0, eventWritten) ∷ (385, 19, []) ∷ (0, 19, []) ∷ []), refl) ∷ (
       stores event
-          ((starts, 0, 12) ∷ (starts, 1, 7) ∷ (starts, 2, 0) ∷ (points, 0, 110) ∷ (points, 1, 0) ∷ (ranks, 0, 3) ∷ (ranks, 1, 1) ∷ (ranks, 2, 0) ∷
+          ((starts, 0, 12) ∷ (starts, 1, 7) ∷ (starts, 2, 0) ∷ (points, 0, 200) ∷ (points, 1, 0) ∷ (ranks, 0, 3) ∷ (ranks, 1, 1) ∷ (ranks, 2, 0) ∷
           (kept, 0, code "m") ∷ (kept, 1, code "G") ∷ (kept, 5, code "R") ∷ (kept, 69, code "2") ∷ (kept, 70, 32) ∷ (kept, 139, 32) ∷ (kept, 140, 0) ∷
           (opponents, 0, 7) ∷ (opponents, 1, 0) ∷ (opponents, 3, 0) ∷ (opponents, 20, 12) ∷ (opponents, 21, 0) ∷ (colours, 0, code "w") ∷ (colours, 1, code "-") ∷ (colours, 2, code "-") ∷ (colours, 3, 0) ∷
           (colours, 20, code "b") ∷ (colours, 21, code "-") ∷ (colours, 22, code "-") ∷ (colours, 23, 0) ∷ (colours, 40, 0) ∷ (results, 0, code "1") ∷ (results, 1, code "U") ∷ (results, 2, code "Z") ∷ (results, 3, 0) ∷
@@ -38,7 +40,7 @@ watchedRows =
           (text, 0, code "0") ∷ (text, 6, code "p") ∷ (text, 7, 13) ∷ (text, 8, code "0") ∷ (text, 12, code "x") ∷ (text, 13, 13) ∷ (text, 14, 0) ∷ (text-length, 0, 14) ∷
           (added, 0, 5) ∷ (first-rounds, 0, 1) ∷ (last-rounds, 0, 2) ∷ (first-starts, 0, 7) ∷ (last-starts, 0, 9999) ∷ (added, 1, 10) ∷ (first-rounds, 1, 3) ∷ (last-rounds, 1, 3) ∷ (first-starts, 1, 1) ∷ (last-starts, 1, 1) ∷ (added, 2, 0) ∷ (last-starts, 31, 0) ∷
           (lines, 0, 4) ∷ (lines, 1, 7) ∷ (lines, 2, 0) ∷ (lines, 199, 0) ∷ (lines, 200, 3) ∷ (lines, 201, 6) ∷ (lines, 202, 0) ∷ (lines, 231, 0) ∷
-          (initial-colour, 0, code "B") ∷ (value, 0, 100) ∷ (value, 1, 15) ∷ (value, 2, 0) ∷ (value, 3, 0) ∷ (value, 4, 10) ∷ (value, 5, 5) ∷ []),
+          (initial-colour, 0, code "B") ∷ (value, 0, 100) ∷ (value, 1, 15) ∷ (value, 2, 0) ∷ (value, 3, 0) ∷ (value, 4, 100) ∷ (value, 5, 15) ∷ []),
       refl,
     ) ∷
     (accepts (crlf-line "012 Cup" ++ alone) 1 0 0, refl) ∷

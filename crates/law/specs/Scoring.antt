@@ -31,24 +31,36 @@ values s = map (λ (v : ℕ × ℕ). v .1) (stated s)
 abbrev pub defaults : Scoring
 defaults = record { win = 10; draw = 5; loss = 0; absent = 0; pairing = 10; unknown = 5 }
 
+-- the letters of some values
+abbrev pub lettersOf : List (ℕ × ℕ) → List ℕ
+lettersOf given = map (λ (v : ℕ × ℕ). v .0) given
+
 abbrev pub letters : List ℕ
-letters = map (λ (v : ℕ × ℕ). v .0) (stated defaults)
+letters = lettersOf (stated defaults)
 
 -- what is given for a letter, or else d
 abbrev pub givenOr : ℕ → ℕ → List (ℕ × ℕ) → ℕ
 givenOr d letter [] = d
 givenOr d letter (v ∷ given) = cond (eqb letter (v .0)) (v .1) (givenOr d letter given)
 
--- "A letter that is not given keeps its default [..]. The same defaults hold with no 162."
+-- the event's own W and D, given or default
+abbrev pub ownWin : List (ℕ × ℕ) → ℕ
+ownWin given = givenOr (defaults .win) (code "W") given
+
+abbrev pub ownDraw : List (ℕ × ℕ) → ℕ
+ownDraw given = givenOr (defaults .draw) (code "D") given
+
+-- "A letter that is not given keeps its default [..]. The same defaults hold with no 162." Of P and X document 02 decides: "a P or X not given in 162 takes the event's
+-- own W or D, given or default"
 unfoldable pub scoringOf : List (ℕ × ℕ) → Scoring
 scoringOf given =
     record {
-      win = givenOr (defaults .win) (code "W") given;
-      draw = givenOr (defaults .draw) (code "D") given;
+      win = ownWin given;
+      draw = ownDraw given;
       loss = givenOr (defaults .loss) (code "L") given;
       absent = givenOr (defaults .absent) (code "A") given;
-      pairing = givenOr (defaults .pairing) (code "P") given;
-      unknown = givenOr (defaults .unknown) (code "X") given;
+      pairing = givenOr (ownWin given) (code "P") given;
+      unknown = givenOr (ownDraw given) (code "X") given;
     }
 
 -- ---- the line
@@ -73,7 +85,7 @@ FilledFirst (slot ∷ slots) (v ∷ given) = SpellsValue slot v × FilledFirst s
 
 -- "no letter comes twice"
 abbrev pub lettersDiffer : List (ℕ × ℕ) → Bool
-lettersDiffer given = eachAfter (λ before letter. not (among letter before)) [] (map (λ (v : ℕ × ℕ). v .0) given)
+lettersDiffer given = eachAfter (λ before letter. not (among letter before)) [] (lettersOf given)
 
 pub record SpellsScoring (row : List ℕ) (given : List (ℕ × ℕ)) : Type 0 where
   pub slots : FilledFirst (map (λ f. part f row) slotFields) given

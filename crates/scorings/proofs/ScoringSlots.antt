@@ -16,13 +16,14 @@ use Rattle.kit.specs.Decides.{to, when, keep, cons}
 use Rattle.kit.proofs.Bools.{clash, and, both, both-ways}
 use Rattle.kit.proofs.Decided.{when-inv, cons-nil}
 use Rattle.law.specs.Columns.{blank, isBlank, cells, elseBlank, afterCode}
-use Rattle.law.specs.Scoring.{letters, slotFields, values, defaults, scoringOf, lettersDiffer}
+use Rattle.law.specs.Scoring.{lettersOf, letters, slotFields, values, defaults, givenOr, ownWin, ownDraw, scoringOf, lettersDiffer}
 use Rattle.law.proofs.FieldsRead.{pointsOf}
+use Rattle.law.proofs.Values.{given-else}
 use Rattle.law.proofs.RecordsRead.{valueOf, fillOr, filledFirst, areGiven, givenOf}
 use Rattle.fields.proofs.Columns.{cells-cons}
 use Rattle.scorings.specs.declared.Given.{Given}
 use Rattle.scorings.specs.declared.Scored.{Scored}
-use Rattle.scorings.specs.Scoring.{letterPlace, placed, differing, slotsIn, lettersOf, seenIn, valuesOf, noneGiven, someGiven, GivenSays, noneScored, someScored, ScoredSays}
+use Rattle.scorings.specs.Scoring.{letterPlace, placed, differing, slotsIn, seenIn, valuesOf, followerOf, noneGiven, someGiven, GivenSays, noneScored, someScored, ScoredSays}
 use Rattle.fields.specs.Said.{says, refuses, orBadField}
 use Rattle.fields.proofs.Keys.{one-of}
 use Rattle.fields.proofs.Cases.{never, standing, stands-is, is-standing}
@@ -52,6 +53,12 @@ each-letter P w d l a p x c h = go (one-of letters c h)
     go (inr (inr (inr (inr (inl e))))) = subst P (sym e) p
     go (inr (inr (inr (inr (inr e))))) = subst P (sym e) x
 
+-- one value more, at its place, and at its follower's where none is given there
+abbrev withValue : List ℕ → List Bool → ℕ → ℕ → List ℕ
+withValue values seen place points =
+    let f = followerOf place in
+    set (set values f (cond (getD seen f false) (getD values f 0) points)) place points
+
 module _ (given : List (ℕ × ℕ)) (p : ℕ) where
   seen-at : (c : ℕ) → among c letters ≡ true → getD (seenIn given) (letterPlace c) false ≡ among c (lettersOf given)
   unfolding letterPlace seenIn
@@ -61,9 +68,22 @@ module _ (given : List (ℕ × ℕ)) (p : ℕ) where
   unfolding letterPlace seenIn
   seen-set = each-letter (λ c. set (seenIn given) (letterPlace c) true ≡ seenIn ((c, p) ∷ given)) refl refl refl refl refl refl
 
-  values-set : (c : ℕ) → among c letters ≡ true → set (valuesOf given) (letterPlace c) p ≡ valuesOf ((c, p) ∷ given)
-  unfolding letterPlace valuesOf scoringOf
-  values-set = each-letter (λ c. set (valuesOf given) (letterPlace c) p ≡ valuesOf ((c, p) ∷ given)) refl refl refl refl refl refl
+  -- where a P or X is given, what it would follow does not matter
+  values-set : (c : ℕ) → among c letters ≡ true → withValue (valuesOf given) (seenIn given) (letterPlace c) p ≡ valuesOf ((c, p) ∷ given)
+  unfolding letterPlace followerOf valuesOf seenIn scoringOf
+  values-set =
+      each-letter (λ c. withValue (valuesOf given) (seenIn given) (letterPlace c) p ≡ valuesOf ((c, p) ∷ given))
+      (λ i. p ∷ ownDraw given ∷ givenOr (defaults .loss) (code "L") given ∷ givenOr (defaults .absent) (code "A") given ∷ given-else (ownWin given) p (code "P") given i ∷ givenOr (ownDraw given) (code "X") given ∷ [])
+      (λ i. ownWin given ∷ p ∷ givenOr (defaults .loss) (code "L") given ∷ givenOr (defaults .absent) (code "A") given ∷ givenOr (ownWin given) (code "P") given ∷ given-else (ownDraw given) p (code "X") given i ∷ [])
+      refl refl refl refl
+
+module _ (values : List ℕ) (seen : List Bool) (place points : ℕ) {f x : ℕ} (f-is : f ≡ followerOf place) (x-is : x ≡ cond (getD seen f false) (getD values f 0) points) where
+  with-value : set (set values f x) place points ≡ withValue values seen place points
+  with-value = ap (λ (y : ℕ). set (set values f y) place points) x-is ∙ ap (λ (g : ℕ). set (set values g (cond (getD seen g false) (getD values g 0) points)) place points) f-is
+
+  pub with-value-are : (given : List (ℕ × ℕ)) (letter : ℕ) → among letter letters ≡ true → place ≡ letterPlace letter → values ≡ valuesOf given → seen ≡ seenIn given
+      → set (set values f x) place points ≡ valuesOf ((letter, points) ∷ given)
+  with-value-are given letter h p v s = with-value ∙ (λ i. withValue (v i) (s i) (p i) points) ∙ values-set given points letter h
 
 -- ---- one slot
 pub value-by : (row : List ℕ) (i c : ℕ) (points : Option ℕ) (v : Bool) → c ≡ getD row i blank → pointsOf (cells row (i + 1) 4) ≡ points → ltb (letterPlace c) 6 ≡ v
@@ -261,13 +281,15 @@ module _ (slot : List ℕ) (after : List (List ℕ)) (given : Given) (said : Giv
       pub letter-again : getD (given .seen) k false ≡ true → {r : Given} → GivenSays none r → GivenSays (differing (slot ∷ after)) r
       letter-again s n = bad (one ∙ ap (λ (v : Bool). when (not v) (some ((letter .0, p) ∷ before .0))) (sym seen ∙ s)) n
 
-      pub letter-new : getD (given .seen) k false ≡ false → GivenSays (differing (slot ∷ after)) (record { good = true; filled = true; seen = set (given .seen) k true; values = set (given .values) k p })
+      pub letter-new : getD (given .seen) k false ≡ false → {v : List ℕ}
+          → ((l : List (ℕ × ℕ)) (c : ℕ) → among c letters ≡ true → k ≡ letterPlace c → given .values ≡ valuesOf l → given .seen ≡ seenIn l → v ≡ valuesOf ((c, p) ∷ l))
+          → GivenSays (differing (slot ∷ after)) (record { good = true; filled = true; seen = set (given .seen) k true; values = v })
       unfolding someGiven
-      letter-new s =
-          is-given (differing (slot ∷ after)) (record { good = true; filled = true; seen = set (given .seen) k true; values = set (given .values) k p })
+      letter-new s {v} more =
+          is-given (differing (slot ∷ after)) (record { good = true; filled = true; seen = set (given .seen) k true; values = v })
           (ap₂ (λ (l : List Bool) (m : List ℕ). record { good = true; filled = true; seen = l; values = m })
           (ap₂ (λ (x : Given) (j : ℕ). set (x .seen) j true) whole (letter .2) ∙ seen-set (before .0) p (letter .0) (letter .3))
-          (ap₂ (λ (x : Given) (j : ℕ). set (x .values) j p) whole (letter .2) ∙ values-set (before .0) p (letter .0) (letter .3))
+          (more (before .0) (letter .0) (letter .3) (letter .2) (ap (λ (x : Given). x .values) whole) (ap (λ (x : Given). x .seen) whole))
           ∙ ap asGiven (sym (one ∙ ap (λ (v : Bool). when (not v) (some ((letter .0, p) ∷ before .0))) (sym seen ∙ s))))
 
 -- ---- the six slots, and the line

@@ -39,14 +39,15 @@ differing slots = keep law.lettersDiffer (filledFirst slots)
 abbrev pub slotsIn : List ℕ → List (List ℕ)
 slotsIn row = map (λ f. part f row) law.slotFields
 
-abbrev pub lettersOf : List (ℕ × ℕ) → List ℕ
-lettersOf given = map (λ (v : ℕ × ℕ). v .0) given
-
 unfoldable pub seenIn : List (ℕ × ℕ) → List Bool
-seenIn given = map (λ c. among c (lettersOf given)) law.letters
+seenIn given = map (λ c. among c (law.lettersOf given)) law.letters
 
 unfoldable pub valuesOf : List (ℕ × ℕ) → List ℕ
 valuesOf given = law.values (law.scoringOf given)
+
+-- the place of P for that of W, of X for that of D, and any other itself
+unfoldable pub followerOf : ℕ → ℕ
+followerOf place = cond (eqb place 0) 4 (cond (eqb place 1) 5 place)
 
 unfoldable pub noneGiven : Given
 noneGiven = record { good = false; filled = false; seen = replicate 6 false; values = law.values law.defaults }

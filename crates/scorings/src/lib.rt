@@ -1,16 +1,18 @@
-// A 162 line, by value: the values of W D L A P X that it gives, and the defaults of those that it does not. A line against its rule is refusal 7:
+// A 162 line, by value: the values of W D L A P X that it gives, and of those that it does not the defaults, or for P and X the event's own W and D. A line against its rule is refusal 7:
 // Value's Bad; Given and Scored with good false.
 use fields::Points;
 ghost use mathlib.Core.Path.{_≡_};
+ghost use mathlib.Core.Bool.{true, cond};
 ghost use mathlib.Core.Option.{some};
 ghost use mathlib.Core.List.{List, [], _∷_};
-ghost use Prim.Native.Nat.{ℕ, _≤_};
+ghost use Prim.Native.Nat.{ℕ, _≤_, _<_};
+ghost use Rattle.kit.specs.Lists.{among};
 ghost use Rattle.kit.specs.Decides.{to, when};
 ghost use Rattle.law.specs.Columns.{cells, elseBlank, afterCode};
-ghost use Rattle.law.specs.Scoring.{slotFields};
+ghost use Rattle.law.specs.Scoring.{letters, slotFields};
 ghost use Rattle.law.proofs.RecordsRead.{valueOf, givenOf};
 ghost use Rattle.fields.specs.Said.{orBadField};
-ghost use Rattle.scorings.specs.Scoring.{letterPlace, valueSays, placed, differing, slotsIn, GivenSays, ScoredSays};
+ghost use Rattle.scorings.specs.Scoring.{letterPlace, valueSays, placed, differing, slotsIn, seenIn, valuesOf, followerOf, GivenSays, ScoredSays};
 
 // What W, D, L, A, P and X are worth, in tenths.
 pub struct Scoring {
@@ -37,17 +39,30 @@ struct Given {
     values: [u32; 6],
 }
 
+// Where the value of each letter stands among those of W D L A P X.
+const WIN: usize = 0;
+
+const DRAW: usize = 1;
+
+const LOSS: usize = 2;
+
+const ABSENT: usize = 3;
+
+const PAIRING: usize = 4;
+
+const UNKNOWN: usize = 5;
+
 // The place of a letter among W D L A P X; 6 for any other byte.
 fn letter_place(c: u8) -> usize
     ensures { λ r. ⌜ r ≡ letterPlace c ⌝ }
 {
     match c {
-        b'W' => 0,
-        b'D' => 1,
-        b'L' => 2,
-        b'A' => 3,
-        b'P' => 4,
-        b'X' => 5,
+        b'W' => WIN,
+        b'D' => DRAW,
+        b'L' => LOSS,
+        b'A' => ABSENT,
+        b'P' => PAIRING,
+        b'X' => UNKNOWN,
         _ => 6,
     }
 }
@@ -80,6 +95,40 @@ fn nothing_given(good: bool) -> Given
     }
 }
 
+// Where a value stands too while none is given there: W's at P's place, D's at X's. Any other stands at its own place alone.
+fn follower_of(place: usize) -> usize
+    requires { ⌜ place < 6 ⌝ }
+    ensures { λ r. ⌜ (r ≡ followerOf place) × (r < 6) ⌝ }
+{
+    match place {
+        WIN => PAIRING,
+        DRAW => UNKNOWN,
+        _ => place,
+    }
+}
+
+// A value that is given, or else another.
+fn value_or(given: bool, value: u32, other: u32) -> u32
+    ensures { λ r. ⌜ r ≡ cond given value other ⌝ }
+{
+    if given {
+        return value;
+    }
+    other
+}
+
+// The values with one more that is given, at its place and at its follower's: a P or X that is not given takes the event's own W or D.
+fn with_value(values: [u32; 6], seen: [bool; 6], place: usize, points: u32) -> [u32; 6]
+    requires { ⌜ place < 6 ⌝ }
+    ensures { λ r. ⌜ ((given : List (ℕ × ℕ)) (letter : ℕ) → among letter letters ≡ true → place ≡ letterPlace letter → values ≡ valuesOf given → seen ≡ seenIn given → r ≡ valuesOf ((letter, points) ∷ given)) ⌝ }
+{
+    let follower = follower_of(place);
+    let mut more = values;
+    more[follower] = value_or(seen[follower], values[follower], points);
+    more[place] = points;
+    more
+}
+
 // One slot more, before those that are given: a blank one has only blank ones after it, and a filled one has a letter of its own.
 fn with_slot(line: &[u8], from: usize, given: Given) -> Given
     requires { ⌜ from ≤ 65534 ⌝ }
@@ -101,9 +150,9 @@ fn with_slot(line: &[u8], from: usize, given: Given) -> Given
     if seen[letter] {
         return nothing_given(false);
     }
-    let mut values = given.values;
+    let before = given.values;
+    let values = with_value(before, seen, letter, points);
     seen[letter] = true;
-    values[letter] = points;
     Given {
         good: true,
         filled: true,
@@ -155,7 +204,7 @@ impl Scoring {
         values: [10, 5, 0, 0, 10, 5],
     };
 
-    // A letter that is not given keeps its default.
+    // A letter that is not given keeps its default; P and X take the event's own W and D.
     pub fn from_line(line: &[u8]) -> Scored
         ensures { λ r. ⌜ ScoredSays (givenOf (now (line .entry))) r ⌝ }
     {

@@ -1,7 +1,6 @@
 -- `scorings::with_slot` meets its contract: each answer is what one slot more gives. Assumes nothing.
 use mathlib.Core.Path.{sym, ap, _∙_}
 use borrow.Author.Tests.{not-true, not-false}
-use native.Mathlib.Omega.{arith}
 use Rattle.law.specs.Columns.{cells}
 use Rattle.scorings.specs.Scoring.{valueSays}
 use Rattle.scorings.proofs.ScoringSlots.{slot-place, after-bad, blank-late, blank-more, slot-bad, letter-again, letter-new}
@@ -53,19 +52,16 @@ returns-5 c =
     λ after is. letter-again (cells (c .before .before .before .before .before .before .before .before .before .before .before .before .args .line .now) (c .before .before .before .before .before .before .before .before .before .before .before .before .args .from) 5) after (c .before .before .before .before .before .before .before .before .before .before .before .before .args .given) is (sym (c .before .before .before .before .before .before .before .before .blank-at .ensures) ∙ c .before .before .before .before .before .before .before .if2 .left) (not-false _ (c .before .before .before .before .before .before .before .before .before .if1 .left)) _ _
     (sym (c .before .before .before .before .before .before .value-at .ensures) ∙ ap valueSays (c .before .before .before .before .letter .given .1)) (c .before .if4 .taken) (c .nothing-given4 .ensures)
 
+with-value-requires : tie.Need-with-value-requires
+with-value-requires c κs = slot-place (cells (c .before .before .before .before .before .before .before .before .before .before .before .before .args .line .now) (c .before .before .before .before .before .before .before .before .before .before .before .before .args .from) 5) _ _ (sym (c .before .before .before .before .before .before .value-at .ensures) ∙ ap valueSays (c .before .before .before .before .letter .given .1))
+
 array-write-seen : tie.Need-array-write-seen
-array-write-seen c = slot-place (cells (c .before .before .before .before .before .before .before .before .before .before .before .before .args .line .now) (c .before .before .before .before .before .before .before .before .before .before .before .before .args .from) 5) _ _ (sym (c .before .before .before .before .before .before .value-at .ensures) ∙ ap valueSays (c .before .before .before .before .letter .given .1))
-
-mul-values : tie.Need-mul-values
-mul-values c = omega (arith, slot-place (cells (c .before .before .before .before .before .before .before .before .before .before .before .before .args .line .now) (c .before .before .before .before .before .before .before .before .before .before .before .before .args .from) 5) _ _ (sym (c .before .before .before .before .before .before .value-at .ensures) ∙ ap valueSays (c .before .before .before .before .letter .given .1)))
-
-array-write-values : tie.Need-array-write-values
-array-write-values c = slot-place (cells (c .before .before .before .before .before .before .before .before .before .before .before .before .args .line .now) (c .before .before .before .before .before .before .before .before .before .before .before .before .args .from) 5) _ _ (sym (c .before .before .before .before .before .before .value-at .ensures) ∙ ap valueSays (c .before .before .before .before .letter .given .1))
+array-write-seen c = slot-place (cells (c .before .before .before .before .before .before .before .before .before .before .before .before .before .args .line .now) (c .before .before .before .before .before .before .before .before .before .before .before .before .before .args .from) 5) _ _ (sym (c .before .before .before .before .before .before .before .value-at .ensures) ∙ ap valueSays (c .before .before .before .before .before .letter .given .1))
 
 returns-6 : tie.Need-returns-6
 returns-6 c =
-    λ after is. letter-new (cells (c .before .before .before .before .before .before .before .before .before .before .before .before .args .line .now) (c .before .before .before .before .before .before .before .before .before .before .before .before .args .from) 5) after (c .before .before .before .before .before .before .before .before .before .before .before .before .args .given) is (sym (c .before .before .before .before .before .before .before .before .blank-at .ensures) ∙ c .before .before .before .before .before .before .before .if2 .left) (not-false _ (c .before .before .before .before .before .before .before .before .before .if1 .left)) _ _
-    (sym (c .before .before .before .before .before .before .value-at .ensures) ∙ ap valueSays (c .before .before .before .before .letter .given .1)) (c .before .if4 .left)
+    λ after is. letter-new (cells (c .before .before .before .before .before .before .before .before .before .before .before .before .before .args .line .now) (c .before .before .before .before .before .before .before .before .before .before .before .before .before .args .from) 5) after (c .before .before .before .before .before .before .before .before .before .before .before .before .before .args .given) is (sym (c .before .before .before .before .before .before .before .before .before .blank-at .ensures) ∙ c .before .before .before .before .before .before .before .before .if2 .left) (not-false _ (c .before .before .before .before .before .before .before .before .before .before .if1 .left)) _ _
+    (sym (c .before .before .before .before .before .before .before .value-at .ensures) ∙ ap valueSays (c .before .before .before .before .before .letter .given .1)) (c .before .before .if4 .left) (c .with-value .ensures)
 
 pub with-slot-spec : {M : Type 1} → statement M
 with-slot-spec =
@@ -85,7 +81,6 @@ with-slot-spec =
     array-read-if4
     nothing-given-requires-4
     returns-5
+    with-value-requires
     array-write-seen
-    mul-values
-    array-write-values
     returns-6)
