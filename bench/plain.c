@@ -1,4 +1,4 @@
-/* Report files read, written and asked for a score in plain C: written from the same page as the Rattle code, with the same checks and tables. */
+/* Report files read, written and asked for a score in plain C: written from the same pages as the Rattle code, with the same checks and tables. */
 #include "plain.h"
 
 #ifdef PENUMBRICO_NO_HEADERS
@@ -456,6 +456,11 @@ static uint32_t read_values(reader *r, const record *line)
         return TRF_BAD_FIELD;
     if (!first_time(r, 162))
         return TRF_AGAIN;
+    /* After the last slot, since W and D may stand in any of them: a P or X not given takes the event's own W or D, given or default. */
+    if (!given[PAIRING_BYE])
+        values[PAIRING_BYE] = values[WIN];
+    if (!given[OTHER])
+        values[OTHER] = values[DRAW];
     memcpy(r->values, values, sizeof values);
     return 0;
 }

@@ -66,13 +66,16 @@ static void change_field(chance *c, report *r)
         put_column(l, column, is_blank || column > other->length ? ' ' : other->bytes[column - 1]);
 }
 
-/* The report's 162 line, or one that is put into it. */
+/* The report's 162 line, or one that is put into it, with columns for six slots. */
 static line *values_line(chance *c, report *r)
 {
     static const char LINE[] = "162  W 1.0    D 0.5    L 0.0";
-    for (size_t i = 0; i < r->count; i++)
-        if (has_code(line_at(r, i), "162")) return line_at(r, i);
-    return insert_line(r, below(c, (uint32_t)r->count + 1), (const uint8_t *)LINE, strlen(LINE), END_CR);
+    line *l = 0;
+    for (size_t i = 0; i < r->count && !l; i++)
+        if (has_code(line_at(r, i), "162")) l = line_at(r, i);
+    if (!l) l = insert_line(r, below(c, (uint32_t)r->count + 1), (const uint8_t *)LINE, strlen(LINE), END_CR);
+    while (l && l->length < 55) put_column(l, l->length + 1, ' ');
+    return l;
 }
 
 /* A slot of 162 is blank, or as another one, or says something else. */
@@ -81,10 +84,29 @@ static void change_slot(chance *c, report *r)
     line *l = values_line(c, r);
     size_t slot = 6 + 9 * below(c, 6), other = 6 + 9 * below(c, 6);
     if (!l) return;
-    while (l->length < 55) put_column(l, l->length + 1, ' ');
     if (one_in(c, 3)) memset(l->bytes + slot - 1, ' ', 5);
     else if (one_in(c, 2)) memmove(l->bytes + slot - 1, l->bytes + other - 1, 5);
     else l->bytes[slot - 1] = byte_of(c, "WDLAPX"), put_points(l, slot + 1, below(c, 1000), 0);
+}
+
+static uint8_t *slot_at(line *l, size_t slot) { return l->bytes + 5 + 9 * slot; }
+
+/* A letter that 162 gives is left out, with the last slot in its place; one that it leaves out is given. Mostly P or X, or the W and D that they go by. The stated points stay. */
+static void give_or_leave_out(chance *c, report *r)
+{
+    line *l = values_line(c, r);
+    uint8_t letter = byte_of(c, "WDPXWDPXLA");
+    size_t given = 0, at = 6;
+    if (!l) return;
+    for (; given < 6 && *slot_at(l, given) != ' '; given++)
+        if (*slot_at(l, given) == letter) at = given;
+    if (at < given) {
+        memmove(slot_at(l, at), slot_at(l, given - 1), 5);
+        memset(slot_at(l, given - 1), ' ', 5);
+    } else if (given < 6) {
+        *slot_at(l, given) = letter;
+        put_points(l, 7 + 9 * given, 5 * below(c, 8), 0);
+    }
 }
 
 /* One number of a 250 record, at the edge of what it may be. */
@@ -264,7 +286,7 @@ typedef void change(chance *c, report *r);
 static change *const CHANGES[] = {
     change_column, change_column, change_column, change_column, change_column, change_column, change_column, change_column,
     shift_columns, shift_columns, cut_line, lengthen_line, lengthen_line, put_bad_byte, put_bad_byte, change_end, change_end, drop_last_end,
-    change_field, change_field, change_field, change_slot, change_bound, change_code, change_code, repeat_line, repeat_line, repeat_record, lose_line, lose_records, move_line, add_passed, add_text_lines, add_accelerations,
+    change_field, change_field, change_field, change_slot, give_or_leave_out, change_bound, change_code, change_code, repeat_line, repeat_line, repeat_record, lose_line, lose_records, move_line, add_passed, add_text_lines, add_accelerations,
 };
 
 void damage_report(chance *c, report *r)

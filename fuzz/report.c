@@ -136,12 +136,19 @@ static void spell_rounds(chance *c, line *l, uint32_t rounds)
     put_number(l, 5, 4 + between(c, (uint32_t)least, 3), rounds, 1);
 }
 
-/* Slots in any order; a letter that keeps its default may be left out. */
+/* The value of a letter that 162 leaves out: "a P or X not given in 162 takes the event's own W or D", another its default. */
+static uint32_t value_not_given(const trf_answer *answer, int letter)
+{
+    return letter == VALUE_P ? answer->values[VALUE_W] : letter == VALUE_X ? answer->values[VALUE_D] : DEFAULT_VALUES[letter];
+}
+
+/* Slots in any order; a letter that has the same value without its slot may be left out. */
 static void spell_values(chance *c, line *l, const trf_answer *answer)
 {
-    int order[6], slots = 0, leave_out = one_in(c, 2);
+    int order[6], slots = 0;
+    uint32_t leave_out = below(c, 3); /* none, each by chance, all */
     for (int i = 0; i < 6; i++) {
-        if (leave_out && answer->values[i] == DEFAULT_VALUES[i]) continue;
+        if (answer->values[i] == value_not_given(answer, i) && below(c, 2) < leave_out) continue;
         int at = (int)below(c, (uint32_t)slots + 1);
         order[slots++] = order[at];
         order[at] = i;
@@ -155,6 +162,7 @@ static void spell_values(chance *c, line *l, const trf_answer *answer)
     }
 }
 
+/* "The same defaults hold with no 162." */
 static int states_values(chance *c, const trf_answer *answer)
 {
     return one_in(c, 3) || memcmp(answer->values, DEFAULT_VALUES, sizeof DEFAULT_VALUES) != 0;

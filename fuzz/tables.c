@@ -69,11 +69,11 @@ int listed_difference(const tables *one, const tables *other, int tables_looked_
 uint32_t worth(const trf_answer *answer, uint8_t result)
 {
     switch (result) {
-    case '1': case 'W': case '+': case 'F': return answer->values[0];
-    case '=': case 'D': case 'H': return answer->values[1];
-    case '0': case 'L': return answer->values[2];
-    case '-': case 'Z': return answer->values[3];
-    case 'U': return answer->values[4];
+    case '1': case 'W': case '+': case 'F': return answer->values[VALUE_W];
+    case '=': case 'D': case 'H': return answer->values[VALUE_D];
+    case '0': case 'L': return answer->values[VALUE_L];
+    case '-': case 'Z': return answer->values[VALUE_A];
+    case 'U': return answer->values[VALUE_P];
     default: return 0;
     }
 }

@@ -42,6 +42,9 @@ typedef struct {
 
 enum { KEPT_COLUMNS = 70 };
 
+/* An answer's scoring values, in its order. */
+enum { VALUE_W, VALUE_D, VALUE_L, VALUE_A, VALUE_P, VALUE_X };
+
 uint8_t *cell_of(tables *t, int which, size_t cell);
 lengths listed_lengths(void);
 int is_short(const lengths *lent, int tables_lent);

@@ -25,7 +25,7 @@ static uint32_t draw_rounds(chance *c)
     return size < 97 ? between(c, 13, 19) : TRF_MOST_ROUNDS;
 }
 
-/* Values whose sum over all rounds can be stated. */
+/* Values whose sum over all rounds can be stated; P now as W and now apart, and X so with D. */
 static void draw_values(chance *c, trf_answer *answer)
 {
     static const uint32_t COMMON[] = {0, 5, 10, 15, 20, 30};
@@ -36,7 +36,9 @@ static void draw_values(chance *c, trf_answer *answer)
         if (how == 4 || (how == 3 && one_in(c, 3))) answer->values[i] = COMMON[below(c, COUNT_OF(COMMON))];
         if (how == 5) answer->values[i] = one_in(c, 4) ? most : below(c, most + 1);
     }
-    if (how == 5) answer->values[5] = below(c, 1000); /* no result earns X */
+    if (how == 5) answer->values[VALUE_X] = below(c, 1000); /* no result earns X */
+    if (one_in(c, 2)) answer->values[VALUE_P] = answer->values[VALUE_W];
+    if (one_in(c, 2)) answer->values[VALUE_X] = answer->values[VALUE_D];
 }
 
 static int is_taken(const reading *r, uint32_t players, uint32_t start)
