@@ -10,15 +10,20 @@
 
 /* The version of this header and of what the calls answer, for people and for #if (10000 a first number, 100 a second, 1 a third). The first moves where a
    caller must change: a struct, a size, a call or what a part of an answer means. The second moves where the box carries more or gives a file another
-   answer, the third where neither does. */
-#define TRF_VERSION "1.1.0"
-#define TRF_VERSION_NUMBER 10100
+   answer, the third where neither does. Since 2, trf_write takes how the lines end: what was compiled for 1, or declares the calls by itself, as a program
+   in another language does, links with this archive all the same and must be made again. */
+#define TRF_VERSION "2.0.0"
+#define TRF_VERSION_NUMBER 20000
 
 #ifdef PENUMBRICO_NO_HEADERS /* for a compiler without the C library's headers: the names that gcc and clang have built in */
 typedef __UINT8_TYPE__ uint8_t;
 typedef __UINT32_TYPE__ uint32_t;
 typedef __SIZE_TYPE__ size_t;
+#if !defined __cplusplus && (!defined __STDC_VERSION__ || __STDC_VERSION__ < 202311L)
+#define bool _Bool
+#endif
 #else
+#include <stdbool.h>
 #include <stddef.h>
 #include <stdint.h>
 #endif
@@ -35,7 +40,14 @@ enum {
     TRF_MOST_ROUNDS = 20,
     TRF_MOST_ACCELERATIONS = 32, /* 250 records */
     TRF_MOST_TEXT = 2048,        /* bytes of kept text lines, each with its CR */
-    TRF_MOST_WRITTEN = 61141     /* the longest report that trf_write produces */
+    TRF_MOST_WRITTEN = 61887,    /* the longest report that trf_write produces, with CR LF */
+    TRF_MOST_WRITTEN_CR = 61141  /* and with CR alone */
+};
+
+/* How trf_write ends the lines; each call says which. 0 is CR LF and every other number CR alone, since C makes it a bool. */
+enum {
+    TRF_CR_LF = 0, /* CR and LF, which most programs on a desktop want */
+    TRF_CR = 1     /* CR alone, which the card slot's uploader wants */
 };
 
 /* The cells that each lent table must have; cells past these are never written. Places count from 0 and rounds from 1. */
@@ -155,7 +167,8 @@ trf_answer trf_read(const uint8_t *file, size_t file_bytes,
                     trf_acceleration *accelerations, size_t accelerations_cells,
                     uint32_t *lines, size_t lines_cells);
 
-/* Writes the tournament of a reading as a report. A refusal (1, 18 or 19) changes no byte of the output. */
+/* Writes the tournament of a reading as a report, in lines that end as cr_alone says: TRF_CR_LF or TRF_CR. A refusal (1, 18 or 19) changes no byte of the
+   output; 19 is given where out_bytes is less than the report takes with those line ends. */
 trf_written trf_write(trf_answer answer,
                       const uint32_t *starts, size_t starts_cells,
                       const uint32_t *points, size_t points_cells,
@@ -166,6 +179,7 @@ trf_written trf_write(trf_answer answer,
                       const uint8_t *results, size_t results_cells,
                       const uint8_t *text, size_t text_cells,
                       const trf_acceleration *accelerations, size_t accelerations_cells,
+                      bool cr_alone,
                       uint8_t *out, size_t out_bytes);
 
 /* Asks a reading what the player at a place earned before a round (1 to the number of rounds), and the acceleration for that round. Refusals: 1, 18, 20. */

@@ -33,6 +33,7 @@ CHANGES = [
     ("Lines", "between 32 255 c", "between 32 254 c"),
     ("Lines", "not (eqb c 127)", "not (eqb c 126)"),
     ("Lines", "endBytes (some crlf) = CR ∷ LF ∷ []", "endBytes (some crlf) = CR ∷ CR ∷ []"),
+    ("Lines", "endBytes (some crlf) = CR ∷ LF ∷ []", "endBytes (some crlf) = LF ∷ CR ∷ []"),
     ("Lines", "startsWithLF (c ∷ l) = eqb c LF", "startsWithLF (c ∷ l) = false"),
     ("Lines", "Follows (some cr) text after = startsWithLF (joined after) ≡ false", "Follows (some cr) text after = Unit {0}"),
     ("Lines", "(isEmpty text ≡ false) × (isEmpty after ≡ true)", "(isEmpty text ≡ isEmpty text) × (isEmpty after ≡ true)"),
@@ -365,7 +366,7 @@ CHANGES = [
     ("Calls", "writerDenials = tables-short ∷ no-reading ∷", "writerDenials = no-reading ∷"),
     ("Calls", "questionDenials = tables-short ∷ no-reading ∷", "questionDenials = no-reading ∷ tables-short ∷"),
     ("Calls", "questionDenials = tables-short ∷ no-reading ∷ no-place ∷ []", "questionDenials = tables-short ∷ no-reading ∷ []"),
-    ("Calls", "pub short : room < length (written writerEnd t)", "pub short : room ≤ length (written writerEnd t)"),
+    ("Calls", "pub short : room < length (written end t)", "pub short : room ≤ length (written end t)"),
     ("Calls", "(place < length (t .players)) × (1 ≤ round)", "(place ≤ length (t .players)) × (1 ≤ round)"),
     ("Calls", "× (1 ≤ round) ×", "× (0 ≤ round) ×"),
     ("Calls", "× (round ≤ t .rounds) → ⊥", "× (round < t .rounds) → ⊥"),
@@ -373,13 +374,28 @@ CHANGES = [
     ("Calls", "r ≡ writtenAnswer (denialOf denial) 0", "r ≡ writtenAnswer (denialOf denial) 1"),
     ("Calls", "r ≡ scoreAnswer (denialOf denial) 0 0", "r ≡ scoreAnswer (denialOf denial) 1 0"),
     ("Calls", "r ≡ scoreAnswer (denialOf denial) 0 0", "r ≡ scoreAnswer (denialOf denial) 0 1"),
-    ("Calls", "r ≡ writtenAnswer noRefusal (length (written writerEnd t))", "r ≡ writtenAnswer noRefusal 0"),
-    ("Calls", "(λ i. getD (written writerEnd t) i 0) before after", "(λ i. getD (written writerEnd t) 0 0) before after"),
+    ("Calls", "r ≡ writtenAnswer noRefusal (length (written end t))", "r ≡ writtenAnswer noRefusal 0"),
+    ("Calls", "(λ i. getD (written end t) i 0) before after", "(λ i. getD (written end t) 0 0) before after"),
     ("Calls", "scoreAnswer noRefusal (earnedBefore t place round) (accelerationFor t place round)", "scoreAnswer noRefusal (accelerationFor t place round) (earnedBefore t place round)"),
-    ("Calls", "writerEnd = cr", "writerEnd = Rattle.law.specs.Lines.crlf"),
+    # how the writer's lines end
+    ("Calls", "endOf false = crlf", "endOf false = cr"),
+    ("Calls", "endOf true = cr", "endOf true = crlf"),
+    ("Calls", "pub short : room < length (written end t)", "pub short : room < length (written crlf t)"),
+    ("Calls", "pub short : room < length (written end t)", "pub short : room < length (written cr t)"),
+    ("Calls", "r ≡ writtenAnswer noRefusal (length (written end t))", "r ≡ writtenAnswer noRefusal (length (written cr t))"),
+    ("Calls", "pub bytes : Holds 0 (length (written end t)) (λ i. getD (written end t) i 0) before after", "pub bytes : Holds 0 (length (written cr t)) (λ i. getD (written cr t) i 0) before after"),
+    ("Writing", "written end t = flat (λ line. line ++ endBytes (some end)) (writtenLines t)", "written end t = flat (λ line. line ++ endBytes (some crlf)) (writtenLines t)"),
+    ("Writing", "written end t = flat (λ line. line ++ endBytes (some end)) (writtenLines t)",
+     "written end t = flat (λ line. line ++ endBytes (some cr)) (t .text) ++ flat (λ line. line ++ endBytes (some end)) (lib.ListN.drop (lib.ListN.length (t .text)) (writtenLines t))"),
+    ("Writing", "written end t = flat (λ line. line ++ endBytes (some end)) (writtenLines t)",
+     "written end t = flat (λ line. line ++ endBytes (some end)) (take (lib.ListN.length (writtenLines t) - 1) (writtenLines t)) ++ flat (λ line. line ++ endBytes (some cr)) (lib.ListN.drop (lib.ListN.length (writtenLines t) - 1) (writtenLines t))"),
+    ("Writing", "longest cr = 61141", "longest cr = 61140"),
+    ("Writing", "longest cr = 61141", "longest cr = 61142"),
+    ("Writing", "longest crlf = 61887", "longest crlf = 61886"),
+    ("Writing", "longest crlf = 61887", "longest crlf = 61888"),
     ("Calls", "(t : Tournament) → Reading answer tables file t → ⊥", "(t : Tournament) → Reading answer tables file t → SpellsFile file t"),
     ("Calls", "pub accepts : answer .number ≡ 0", "pub accepts : answer ≡ answer"),
-    ("Calls", "WriterDenies answer tables room tables-short = enough tables ≡ false", "WriterDenies answer tables room tables-short = enough tables ≡ true"),
+    ("Calls", "WriterDenies end answer tables room tables-short = enough tables ≡ false", "WriterDenies end answer tables room tables-short = enough tables ≡ true"),
     ("Calls", "QuestionDenies answer tables place round tables-short = enough tables ≡ false", "QuestionDenies answer tables place round tables-short = enough tables ≡ true"),
     ("Calls", "round = x .round; length = n }", "round = x .round; length = x .number }"),
     ("Calls", "points = points; acceleration = acceleration }", "points = acceleration; acceleration = points }"),
@@ -416,8 +432,8 @@ CHANGES = [
     ("Tournament", "players = map (playerOf (roundsOf items))", "players = map (playerOf mostRounds)"),
     ("Writing", "laid (suc (x .0 .1)) pieces", "laid (x .0 .1) pieces"),
     ("Writing", "t .text ++ (roundsLine (t .rounds) ∷ (colourLines (t .colour) ++", "t .text ++ (colourLines (t .colour) ++ (roundsLine (t .rounds) ∷"),
-    ("Calls", "WriteDone answer tables before r after → Writes", "WriteRefused answer tables before r after → Writes"),
-    ("Calls", "pub no-denial : NoneOf (WriterDenies answer tables (length before)) writerDenials", "pub no-denial : NoneOf (WriterDenies answer tables (length before)) []"),
+    ("Calls", "WriteDone end answer tables before r after → Writes", "WriteRefused end answer tables before r after → Writes"),
+    ("Calls", "pub no-denial : NoneOf (WriterDenies end answer tables (length before)) writerDenials", "pub no-denial : NoneOf (WriterDenies end answer tables (length before)) []"),
     ("Calls", "pub no-denial : NoneOf (QuestionDenies answer tables place round) questionDenials", "pub no-denial : NoneOf (QuestionDenies answer tables place round) []"),
     # ---- the functions that decide the relations, which the rows compute: a change that relation and function share must be seen at a row
     ("proofs/FieldsRead", "(some (digitValue a * 100 + digitValue b * 10 + digitValue d))\n", "(some (digitValue a * 10 + digitValue b * 10 + digitValue d))\n"),
@@ -468,16 +484,16 @@ CHANGES = [
     ("proofs/Faults", "testLine bad-field before l = not (isSome (lineItem l))", "testLine bad-field before l = false"),
     ("proofs/Faults", "testLine again before l = testAfter isAgain (lineItems before) (lineItem l)", "testLine again before l = false"),
     ("proofs/Faults", "testLine too-many before l = testAfter isTooMany (lineItems before) (lineItem l)", "testLine too-many before l = false"),
-    ("proofs/Replies", "isTooLong (some t) room = ltb room (length (written writerEnd t))", "isTooLong (some t) room = not (ltb (length (written writerEnd t)) room)"),
-    ("proofs/Replies", "writerDenied long o room tables-short = not long", "writerDenied long o room tables-short = false"),
-    ("proofs/Replies", "writerDenied long o room no-reading = not (isSome o)", "writerDenied long o room no-reading = false"),
+    ("proofs/Replies", "isTooLong end (some t) room = ltb room (length (written end t))", "isTooLong end (some t) room = not (ltb (length (written end t)) room)"),
+    ("proofs/Replies", "writerDenied end long o room tables-short = not long", "writerDenied end long o room tables-short = false"),
+    ("proofs/Replies", "writerDenied end long o room no-reading = not (isSome o)", "writerDenied end long o room no-reading = false"),
     ("proofs/Replies", "questionDenied long o place round tables-short = not long", "questionDenied long o place round tables-short = false"),
     ("proofs/Replies", "questionDenied long o place round no-reading = not (isSome o)", "questionDenied long o place round no-reading = false"),
     ("proofs/Replies", "not (ltb place (length (t .players)) && leb 1 round && leb round (t .rounds))", "not (ltb place (length (t .players)) && leb 1 round)"),
     ("proofs/Replies", "not (ltb place (length (t .players)) && leb 1 round && leb round (t .rounds))", "not (ltb place (length (t .players)) && leb round (t .rounds))"),
     ("proofs/Replies", "not (ltb place (length (t .players)) && leb 1 round && leb round (t .rounds))", "not (leb 1 round && leb round (t .rounds))"),
-    ("proofs/Replies", "writeBy o (some d) = writtenAnswer (denialOf d) 0", "writeBy o (some d) = writtenAnswer (denialOf d) 1"),
-    ("proofs/Replies", "bytesBy o (some d) = []", "bytesBy o (some d) = mathlib.Core.List._∷_ 0 []"),
+    ("proofs/Replies", "writeBy end o (some d) = writtenAnswer (denialOf d) 0", "writeBy end o (some d) = writtenAnswer (denialOf d) 1"),
+    ("proofs/Replies", "bytesBy end o (some d) = []", "bytesBy end o (some d) = mathlib.Core.List._∷_ 0 []"),
     ("proofs/Replies", "askBy o place round (some d) = scoreAnswer (denialOf d) 0 0", "askBy o place round (some d) = scoreAnswer (denialOf d) 0 1"),
 ]
 
@@ -507,7 +523,7 @@ THEOREMS = {
     "NewAndFew": ("differ-same",),
 }
 # of the crate written: whatever breaks in it is a part of these
-WRITTEN = ("written-spells", "written-long", "written-accepted")
+WRITTEN = ("written-spells", "written-long", "written-accepted", "longest-reached")
 # has tests of its own for what the theorems above say, and no row computes them
 LEFT_OUT = "LawfulTested"
 
@@ -731,4 +747,5 @@ def main():
     sys.exit(1 if found["not"] else 0)
 
 
-main()
+if __name__ == "__main__":
+    main()

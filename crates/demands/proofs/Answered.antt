@@ -25,8 +25,8 @@ use Rattle.law.specs.Tournament.{Tournament}
 use Rattle.law.specs.Lawful.{Lawful, noAcceleration}
 use Rattle.law.specs.Spelling.{isSound, SpellsFile}
 use Rattle.law.specs.Tables.{Tables, keptCells, entryCells, enough, Content, contentOf, HoldAll, answerOf}
-use Rattle.law.specs.Writing.{written}
-use Rattle.law.specs.Calls.{Reading, NoReading, writerEnd, Writes, Asks}
+use Rattle.law.specs.Writing.{written, longest}
+use Rattle.law.specs.Calls.{Reading, NoReading, Writes, Asks}
 use Rattle.law.proofs.Accepts.{one-tournament}
 use Rattle.law.proofs.RepliesRight as replies
 use Rattle.law.proofs.RepliesRight.{IsReadingOf, short-unread}
@@ -229,20 +229,20 @@ module _ (a : Answer) (t : Tables) (long : enough t ≡ true) where
           by (no n) = no (λ k. n (subst HadBy (one-tournament f (k .u) u (k .spells) (file .sound f u e)) (k .had)))
 
   pub data Whether : Type 0 where
-    reading-of : (u : Tournament) → Reading a t (written writerEnd u) u → Whether
+    reading-of : (u : Tournament) → Reading a t (written cr u) u → Whether
     no-reading-of : NoReading a t → Whether
 
   pub whether : Whether
-  whether = go (some-list 256 61141 Spelled dec-spelled)
+  whether = go (some-list 256 (longest cr) Spelled dec-spelled)
     where
-      go : Dec (Short Spelled 256 61141) → Whether
+      go : Dec (Short Spelled 256 (longest cr)) → Whether
       go (yes s) = let k = s .holds in reading-of (k .u) (has-reading a t (k .u) (k .had .lawful-is) (k .had .has))
       go (no n) =
           no-reading-of
           (unread a t .1
           (λ u l h.
-          let s = written-spells writerEnd u l in
-          n (record { list = written writerEnd u; short = written-long u l; small = spelled-small (written writerEnd u) u s; holds = record { u = u; spells = s; had = record { lawful-is = l; has = h } } })))
+          let s = written-spells cr u l in
+          n (record { list = written cr u; short = written-long cr u l; small = spelled-small (written cr u) u s; holds = record { u = u; spells = s; had = record { lawful-is = l; has = h } } })))
 
 -- ---- so an answer and tables are a reading of some tournament, or of none, and `law` answers either
 read-or-not : (a : Answer) (t : Tables) → (o : Option Tournament) × IsReadingOf a t o
@@ -254,10 +254,10 @@ read-or-not a t = go (enough t) refl
       where
         by : Whether a t e → (o : Option Tournament) × IsReadingOf a t o
         by (no-reading-of n) = (none, n)
-        by (reading-of u r) = (some u, (written writerEnd u, r))
+        by (reading-of u r) = (some u, (written cr u, r))
 
-pub writes-some : (a : Answer) (t : Tables) (before : List ℕ) → (w : Written) × (after : List ℕ) × Writes a t before w after
-writes-some a t before = let r = read-or-not a t in replies.writes-some a t (r .0) (r .1) before
+pub writes-some : (end : End) (a : Answer) (t : Tables) (before : List ℕ) → (w : Written) × (after : List ℕ) × Writes end a t before w after
+writes-some end a t before = let r = read-or-not a t in replies.writes-some a t end (r .0) (r .1) before
 
 pub asks-some : (a : Answer) (t : Tables) (place : Place) (round : ℕ) → (s : Score) × Asks a t place round s
 asks-some a t place round = let r = read-or-not a t in replies.asks-some a t (r .0) (r .1) place round

@@ -11,7 +11,7 @@ use Rattle.kit.specs.Table.{Holds}
 use Rattle.kit.proofs.Bools.{clash, within, among-all}
 use Rattle.types.specs.declared.Answer.{Answer}
 use Rattle.law.specs.Sizes.{mostFile}
-use Rattle.law.specs.Lines.{Line, Lines}
+use Rattle.law.specs.Lines.{crlf, Line, Lines}
 use Rattle.law.specs.Accelerations.{accelerationCode}
 use Rattle.law.specs.Players.{playerCode}
 use Rattle.law.specs.Items.{Item}
@@ -21,7 +21,7 @@ use Rattle.law.specs.Spelling.{SpellsLine, SpellsFile}
 use Rattle.law.specs.Tables.{Tables, Lent, enoughLent, Content, contentOf, linesContent, HoldAll, HoldLent, answerOf}
 use Rattle.law.specs.Refusals.{Label, too-short, too-big, at-line, of-file, lineFaultNumber, lineFaults, fileFaultNumber, fileFaults, linesOf, Refusal, refusal, refusalOf, Outcome, refused, accepted, Refused, Judged}
 use Rattle.law.specs.Writing.{written}
-use Rattle.law.specs.Calls.{refusedAnswer, Cleared, Leaves, Reads, Reading, writerEnd}
+use Rattle.law.specs.Calls.{refusedAnswer, Cleared, Leaves, Reads, Reading}
 use Rattle.law.proofs.Cut.{one-lines}
 use Rattle.law.proofs.LinesRead.{tested-line}
 use Rattle.law.proofs.Accepts.{tested-file, one-tournament}
@@ -195,7 +195,7 @@ read-held file before a after r n t s = go (r .outcome) (r .judged) (r .leaves)
 
 -- ---- each lawful tournament is read from what the writer puts out for it
 pub spelled : (t : Tournament) → Lawful t → (file : List ℕ) × (length file ≤ mostFile) × SpellsFile file t
-spelled t h = (written writerEnd t, (let l = written-long t h in omega arith), written-spells writerEnd t h)
+spelled t h = (written crlf t, (let l = written-long crlf t h in omega arith), written-spells crlf t h)
 
 pub read-each : (t : Tournament) → Lawful t → (before : Lent) → enoughLent before ≡ true → (file : List ℕ) × (a : Answer) × (after : Lent) × Reads file before a after × Reading a (after .tables) file t
 read-each t h before long =

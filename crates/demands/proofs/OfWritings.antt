@@ -17,16 +17,19 @@ use Rattle.types.specs.declared.Answer.{Answer}
 use Rattle.types.specs.declared.Written.{Written}
 use Rattle.types.specs.declared.Score.{Score}
 use Rattle.types.specs.declared.Place.{Place}
+use Rattle.law.specs.Lines.{End}
 use Rattle.law.specs.Tournament.{Tournament}
 use Rattle.law.specs.Spelling.{SpellsFile}
-use Rattle.law.specs.Tables.{Tables, enough}
+use Rattle.law.specs.Tables.{Tables, Lent, enough}
 use Rattle.law.specs.Refusals.{refusal, noRefusal}
-use Rattle.law.specs.Writing.{written, earnedBefore, accelerationFor}
-use Rattle.law.specs.Calls.{Reading, Denial, tables-short, no-reading, out-short, no-place, denialOf, writerEnd, WriterDenies, writerDenials, writtenAnswer, Writes, write-refused, write-done, QuestionDenies, questionDenials, scoreAnswer, Asks, ask-refused, ask-done}
+use Rattle.law.specs.Writing.{written, longest, earnedBefore, accelerationFor}
+use Rattle.law.specs.Calls.{Reads, Reading, Denial, tables-short, no-reading, out-short, no-place, denialOf, WriterDenies, writerDenials, writtenAnswer, Writes, write-refused, write-done, QuestionDenies, questionDenials, scoreAnswer, Asks, ask-refused, ask-done}
 use Rattle.law.proofs.TwoReadings.{one-tournament-a-reading}
 use Rattle.written.proofs.Spelled.{written-spells}
-use Rattle.written.proofs.Readings.{reading-has, one-reading}
+use Rattle.written.proofs.Lengths.{written-long}
+use Rattle.written.proofs.Readings.{reading-has, one-reading, accepted-read}
 use Rattle.demands.proofs.ReadBack.{denial-number, bytes-are, fits, wrote}
+use Rattle.demands.proofs.OfReadings.{read-held}
 
 -- ---- the denials of writer and question, by their numbers
 denialBy : ℕ → Denial
@@ -62,9 +65,9 @@ laid-over bytes before after room h =
     ∙ ap₂ (λ (x y : List ℕ). x ++ y) (bytes-are bytes before after room h)
     (ext-getD 0 (drop n after) (drop n before) e (λ i l. getD-drop n after i 0 ∙ h .rest (n + i) (omega arith) ∙ sym (getD-drop n before i 0)))
 
-module _ (a : Answer) (tables : Tables) (before : List ℕ) (w : Written) (after : List ℕ) where
+module _ (end : End) (a : Answer) (tables : Tables) (before : List ℕ) (w : Written) (after : List ℕ) where
   abbrev Denies : Denial → Type 0
-  Denies = WriterDenies a tables (length before)
+  Denies = WriterDenies end a tables (length before)
 
   writer-number : (d : Denial) → Denies d → among (denialOf d .number) (0 ∷ 1 ∷ 18 ∷ 19 ∷ []) ≡ true
   writer-number tables-short h = refl
@@ -72,22 +75,22 @@ module _ (a : Answer) (tables : Tables) (before : List ℕ) (w : Written) (after
   writer-number out-short h = refl
   writer-number no-place h = absurd h
 
-  pub write-number : Writes a tables before w after → among (w .number) (0 ∷ 1 ∷ 18 ∷ 19 ∷ []) ≡ true
+  pub write-number : Writes end a tables before w after → among (w .number) (0 ∷ 1 ∷ 18 ∷ 19 ∷ []) ≡ true
   unfolding writtenAnswer
   write-number (write-refused r) = subst (λ (v : Written). among (v .number) (0 ∷ 1 ∷ 18 ∷ 19 ∷ []) ≡ true) (sym (r .says)) (writer-number (r .denial) (r .first .holds))
   write-number (write-done r) = subst (λ (v : Written). among (v .number) (0 ∷ 1 ∷ 18 ∷ 19 ∷ []) ≡ true) (sym (r .says)) refl
 
-  pub write-first : Writes a tables before w after → 1 ≤ w .number → (d : Denial) × FirstIn Denies writerDenials d × (w ≡ writtenAnswer (denialOf d) 0)
+  pub write-first : Writes end a tables before w after → 1 ≤ w .number → (d : Denial) × FirstIn Denies writerDenials d × (w ≡ writtenAnswer (denialOf d) 0)
   unfolding writtenAnswer
   write-first (write-refused r) n = (r .denial, r .first, r .says)
   write-first (write-done r) n = let e = ap (λ (v : Written). v .number) (r .says) in absurd (omega arith)
 
-  pub write-untouched : Writes a tables before w after → 1 ≤ w .number → after ≡ before
+  pub write-untouched : Writes end a tables before w after → 1 ≤ w .number → after ≡ before
   unfolding writtenAnswer
   write-untouched (write-refused r) n = r .untouched
   write-untouched (write-done r) n = let e = ap (λ (v : Written). v .number) (r .says) in absurd (omega arith)
 
-  pub write-exactly : Writes a tables before w after → (d : Denial) → (w ≡ writtenAnswer (denialOf d) 0) ↔ FirstIn Denies writerDenials d
+  pub write-exactly : Writes end a tables before w after → (d : Denial) → (w ≡ writtenAnswer (denialOf d) 0) ↔ FirstIn Denies writerDenials d
   unfolding writtenAnswer
   write-exactly (write-refused r) d = (
     λ e. subst (FirstIn Denies writerDenials) (same-denial (r .denial) d (ap (λ (v : Written). v .number) (sym (r .says) ∙ e))) (r .first),
@@ -101,24 +104,24 @@ module _ (a : Answer) (tables : Tables) (before : List ℕ) (w : Written) (after
     λ f. absurd (none-first Denies (r .no-denial) f),
   )
 
-  pub write-short : Writes a tables before w after → enough tables ≡ false → (w ≡ writtenAnswer (refusal 1 0 0) 0) × (after ≡ before)
+  pub write-short : Writes end a tables before w after → enough tables ≡ false → (w ≡ writtenAnswer (refusal 1 0 0) 0) × (after ≡ before)
   unfolding writtenAnswer
   write-short h e =
       let s = write-exactly h tables-short .1 (short-first Denies out-short e) in
       (s, write-untouched h (let n = ap (λ (v : Written). v .number) s in omega arith))
 
-  pub write-bytes : Writes a tables before w after → w .number ≡ 0 → (file : List ℕ) × (t : Tournament) × Reading a tables file t
-      × (w ≡ writtenAnswer noRefusal (length (written writerEnd t))) × (after ≡ written writerEnd t ++ drop (length (written writerEnd t)) before)
+  pub write-bytes : Writes end a tables before w after → w .number ≡ 0 → (file : List ℕ) × (t : Tournament) × Reading a tables file t
+      × (w ≡ writtenAnswer noRefusal (length (written end t))) × (after ≡ written end t ++ drop (length (written end t)) before)
   unfolding writtenAnswer
   write-bytes (write-refused r) n =
       let e = ap (λ (v : Written). v .number) (r .says) in
       let m = denial-number (r .denial) in
       absurd (omega arith)
   write-bytes (write-done r) n =
-      (r .file, r .t, r .reading, r .says, laid-over (written writerEnd (r .t)) before after (fits a tables before w after r) (r .bytes))
+      (r .file, r .t, r .reading, r .says, laid-over (written end (r .t)) before after (fits end a tables before w after r) (r .bytes))
 
   -- given room, nothing denies a reading
-  write-room : Writes a tables before w after → (file : List ℕ) (t : Tournament) → Reading a tables file t → length (written writerEnd t) ≤ length before → w .number ≡ 0
+  write-room : Writes end a tables before w after → (file : List ℕ) (t : Tournament) → Reading a tables file t → length (written end t) ≤ length before → w .number ≡ 0
   unfolding writtenAnswer
   write-room (write-done r) file t k room = ap (λ (v : Written). v .number) (r .says)
   write-room (write-refused r) file t k room = absurd (go (r .denial) (r .first .holds))
@@ -128,18 +131,26 @@ module _ (a : Answer) (tables : Tables) (before : List ℕ) (w : Written) (after
       go no-reading h = h file t k
       go out-short h =
           let e = one-reading a tables (h .file) file (h .t) t (h .reading) k in
-          let s = subst (λ (u : Tournament). length before < length (written writerEnd u)) e (h .short) in
+          let s = subst (λ (u : Tournament). length before < length (written end u)) e (h .short) in
           omega arith
       go no-place h = h
 
-  pub write-spells : Writes a tables before w after → (file : List ℕ) (t : Tournament) → Reading a tables file t → length (written writerEnd t) ≤ length before
+  pub write-spells : Writes end a tables before w after → (file : List ℕ) (t : Tournament) → Reading a tables file t → length (written end t) ≤ length before
       → (w .number ≡ 0) × SpellsFile (take (w .length) after) t
   write-spells h file t k room =
       let n = write-room h file t k room in
-      let q = wrote a tables before w after h n in
+      let q = wrote end a tables before w after h n in
       let l = reading-has a tables file t k .0 in
       let e : q .u ≡ t = one-tournament-a-reading (q .u) t (q .lawful) l (sym (q .says) ∙ reading-has a tables file t k .1 .says) tables tables tables (q .holds) (reading-has a tables file t k .1 .holds) in
-      (n, subst (λ (f : List ℕ). SpellsFile f t) (sym (q .bytes ∙ ap (written writerEnd) e)) (written-spells writerEnd t l))
+      (n, subst (λ (f : List ℕ). SpellsFile f t) (sym (q .bytes ∙ ap (written end) e)) (written-spells end t l))
+
+-- ---- what was read is written, given room for the longest
+pub read-written : (file : List ℕ) (before : Lent) (a : Answer) (after : Lent) → Reads file before a after → a .number ≡ 0
+    → (end : End) (out : List ℕ) → longest end ≤ length out → (w : Written) (x : List ℕ) → Writes end a (after .tables) out w x → w .number ≡ 0
+read-written file before a after r n end out room w x h =
+    let k = accepted-read file before a after r n in
+    let l = written-long end (k .t) (k .lawful) in
+    write-spells end a (after .tables) out w x h file (k .t) (read-held file before a after r n (k .t) (k .spells) .2) (omega arith) .0
 
 -- ---- the question
 module _ (a : Answer) (tables : Tables) (place : Place) (round : ℕ) (s : Score) where

@@ -11,7 +11,7 @@ use lib.Seq.{length-take-le, getD-take, ext-getD}
 use Rattle.kit.specs.Table.{Holds}
 use Rattle.types.specs.declared.Answer.{Answer}
 use Rattle.types.specs.declared.Written.{Written}
-use Rattle.law.specs.Lines.{cr}
+use Rattle.law.specs.Lines.{End}
 use Rattle.law.specs.Tournament.{Tournament}
 use Rattle.law.specs.Lawful.{Lawful}
 use Rattle.law.specs.Tables.{Tables, Lent, enoughLent, contentOf, HoldAll, answerOf}
@@ -19,7 +19,7 @@ use Rattle.law.specs.Writing.{written}
 use Rattle.law.specs.Calls.{Reads, Denial, tables-short, no-reading, out-short, no-place, denialOf, writtenAnswer, WriteDone, Writes, write-refused, write-done}
 use Rattle.law.proofs.ReadsOnce.{reads-lawful}
 use Rattle.written.proofs.Spelled.{written-spells}
-use Rattle.written.proofs.Lengths.{written-long}
+use Rattle.written.proofs.Lengths.{written-long, longest-most}
 use Rattle.written.proofs.Readings.{reading-has}
 use Rattle.demands.specs.Demands.{SameCells}
 
@@ -52,23 +52,23 @@ bytes-are bytes before after room h =
     let e : length (take (length bytes) after) ≡ length bytes = length-take-le (length bytes) after (omega arith) in
     ext-getD 0 (take (length bytes) after) bytes e (λ i l. getD-take (length bytes) after i 0 (omega arith) ∙ h .cells i (omega arith))
 
-module _ (a : Answer) (t : Tables) (before : List ℕ) (r : Written) (after : List ℕ) where
+module _ (end : End) (a : Answer) (t : Tables) (before : List ℕ) (r : Written) (after : List ℕ) where
   pub record Wrote : Type 0 where
     pub u : Tournament
     pub lawful : Lawful u
     pub says : a ≡ answerOf u
     pub holds : HoldAll (contentOf u) t t
-    pub bytes : take (r .length) after ≡ written cr u
+    pub bytes : take (r .length) after ≡ written end u
 
   -- the bytes had room
-  pub fits : (w : WriteDone a t before r after) → length (written cr (w .t)) ≤ length before
-  fits w = go (decLt (length before) (length (written cr (w .t))))
+  pub fits : (w : WriteDone end a t before r after) → length (written end (w .t)) ≤ length before
+  fits w = go (decLt (length before) (length (written end (w .t))))
     where
-      go : Dec (length before < length (written cr (w .t))) → length (written cr (w .t)) ≤ length before
+      go : Dec (length before < length (written end (w .t))) → length (written end (w .t)) ≤ length before
       go (yes l) = absurd (w .no-denial .1 .1 .0 (record { file = w .file; t = w .t; reading = w .reading; short = l }))
       go (no l) = omega arith
 
-  pub wrote : Writes a t before r after → r .number ≡ 0 → Wrote
+  pub wrote : Writes end a t before r after → r .number ≡ 0 → Wrote
   unfolding writtenAnswer
   wrote (write-refused w) e =
       let n = ap (λ (x : Written). x .number) (w .says) in
@@ -76,21 +76,22 @@ module _ (a : Answer) (t : Tables) (before : List ℕ) (r : Written) (after : Li
       absurd (omega arith)
   wrote (write-done w) e =
       let k = reading-has a t (w .file) (w .t) (w .reading) in
-      let n : r .length ≡ length (written cr (w .t)) = ap (λ (x : Written). x .length) (w .says) in
+      let n : r .length ≡ length (written end (w .t)) = ap (λ (x : Written). x .length) (w .says) in
       record {
         u = w .t;
         lawful = k .0;
         says = k .1 .says;
         holds = k .1 .holds;
-        bytes = ap (λ (m : ℕ). take m after) n ∙ bytes-are (written cr (w .t)) before after (fits w) (w .bytes);
+        bytes = ap (λ (m : ℕ). take m after) n ∙ bytes-are (written end (w .t)) before after (fits w) (w .bytes);
       }
 
   -- ---- and is read back
-  pub read-back : Writes a t before r after → r .number ≡ 0 → (lent : Lent) → enoughLent lent ≡ true → (b : Answer) (x : Lent) → Reads (take (r .length) after) lent b x → (b .number ≡ 0) × (b ≡ a) × SameCells (x .tables) t
+  pub read-back : Writes end a t before r after → r .number ≡ 0 → (lent : Lent) → enoughLent lent ≡ true → (b : Answer) (x : Lent) → Reads (take (r .length) after) lent b x → (b .number ≡ 0) × (b ≡ a) × SameCells (x .tables) t
   unfolding answerOf
   read-back w e lent long b x h =
       let k = wrote w e in
       let q = subst (λ (file : List ℕ). Reads file lent b x) (k .bytes) h in
-      let n = written-long (k .u) (k .lawful) in
-      let l = reads-lawful (written cr (k .u)) (k .u) lent long (omega arith) (written-spells cr (k .u) (k .lawful)) (k .lawful) b x q in
+      let n = written-long end (k .u) (k .lawful) in
+      let m = longest-most end in
+      let l = reads-lawful (written end (k .u)) (k .u) lent long (omega arith) (written-spells end (k .u) (k .lawful)) (k .lawful) b x q in
       (ap (λ (v : Answer). v .number) (l .says), l .says ∙ sym (k .says), same-held (k .u) (l .holds .tables) (k .holds))

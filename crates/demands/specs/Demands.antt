@@ -16,7 +16,7 @@ use Rattle.types.specs.declared.Written.{Written}
 use Rattle.types.specs.declared.Score.{Score}
 use Rattle.types.specs.declared.Place.{Place}
 use Rattle.law.specs.Sizes.{mostFile, mostPlayers, mostAccelerations, mostText}
-use Rattle.law.specs.Lines.{Line, Lines}
+use Rattle.law.specs.Lines.{End, Line, Lines}
 use Rattle.law.specs.Scoring.{Scoring, lettersOf}
 use Rattle.law.specs.Accelerations.{accelerationCode}
 use Rattle.law.specs.Players.{playerCode}
@@ -27,45 +27,45 @@ use Rattle.law.specs.Lawful.{Lawful, noAcceleration}
 use Rattle.law.specs.Spelling.{SpellsLine, SpellsFile}
 use Rattle.law.specs.Tables.{Tables, Lent, keptCells, entryCells, enough, enoughLent, contentOf, linesContent, zeros, HoldAll, HoldLent, answerOf}
 use Rattle.law.specs.Refusals.{linesOf, Refusal, refusal, noRefusal, Refused}
-use Rattle.law.specs.Writing.{written, earnedBefore, accelerationFor}
-use Rattle.law.specs.Calls.{refusedAnswer, Reads, Reading, Denial, denialOf, writerEnd, WriterDenies, writerDenials, writtenAnswer, Writes, QuestionDenies, questionDenials, scoreAnswer, Asks}
+use Rattle.law.specs.Writing.{writtenLines, written, longest, earnedBefore, accelerationFor}
+use Rattle.law.specs.Calls.{refusedAnswer, Reads, Reading, Denial, denialOf, endOf, WriterDenies, writerDenials, writtenAnswer, Writes, QuestionDenies, questionDenials, scoreAnswer, Asks}
 use Rattle.law.proofs.Rows.{RowHolds}
 use Rattle.law.proofs.Marked.{rows}
 
--- ---- of every call, whatever it is given: any file, any answer, tables and output of any length and content; and of all that it may then answer and leave
+-- ---- of every call, whatever it is given: any file, any answer, tables and output of any length and content, either terminator; and of all that it may then answer and leave
 abbrev pub EveryReading : (List ℕ → Lent → Answer → Lent → Type 0) → Type 0
 EveryReading Says = (file : List ℕ) (before : Lent) (a : Answer) (after : Lent) → Reads file before a after → Says file before a after
 
-abbrev pub EveryWriting : (Answer → Tables → List ℕ → Written → List ℕ → Type 0) → Type 0
-EveryWriting Says = (a : Answer) (tables : Tables) (before : List ℕ) (w : Written) (after : List ℕ) → Writes a tables before w after → Says a tables before w after
+abbrev pub EveryWriting : (End → Answer → Tables → List ℕ → Written → List ℕ → Type 0) → Type 0
+EveryWriting Says = (end : End) (a : Answer) (tables : Tables) (before : List ℕ) (w : Written) (after : List ℕ) → Writes end a tables before w after → Says end a tables before w after
 
 abbrev pub EveryQuestion : (Answer → Tables → Place → ℕ → Score → Type 0) → Type 0
 EveryQuestion Says = (a : Answer) (tables : Tables) (place : Place) (round : ℕ) (s : Score) → Asks a tables place round s → Says a tables place round s
 
 pub record Demand-1 : Type 0 where
   -- "Every byte string gets an answer": there is one, and one only, with one content of every lent cell. "No call trusts that its caller looked first": nothing is asked
-  -- of file, answer, tables, output, place and round, here or by a `requires` of the three calls
+  -- of file, answer, tables, terminator, output, place and round, here or by a `requires` of the three calls
   pub reading-answered : (file : List ℕ) (before : Lent) → (a : Answer) × (after : Lent) × Reads file before a after
-  pub writing-answered : (a : Answer) (tables : Tables) (before : List ℕ) → (w : Written) × (after : List ℕ) × Writes a tables before w after
+  pub writing-answered : (end : End) (a : Answer) (tables : Tables) (before : List ℕ) → (w : Written) × (after : List ℕ) × Writes end a tables before w after
   pub question-answered : (a : Answer) (tables : Tables) (place : Place) (round : ℕ) → (s : Score) × Asks a tables place round s
   pub reading-once : EveryReading (λ file before a after. (b : Answer) (x : Lent) → Reads file before b x → (a ≡ b) × (after ≡ x))
-  pub writing-once : EveryWriting (λ a tables before w after. (v : Written) (x : List ℕ) → Writes a tables before v x → (w ≡ v) × (after ≡ x))
+  pub writing-once : EveryWriting (λ end a tables before w after. (v : Written) (x : List ℕ) → Writes end a tables before v x → (w ≡ v) × (after ≡ x))
   pub question-once : EveryQuestion (λ a tables place round s. (v : Score) → Asks a tables place round v → s ≡ v)
   -- "Bad input or bad tables get one of the numbered refusals": 0 is an acceptance
   pub reading-numbers : EveryReading (λ file before a after. a .number ≤ 17)
-  pub writing-numbers : EveryWriting (λ a tables before w after. among (w .number) (0 ∷ 1 ∷ 18 ∷ 19 ∷ []) ≡ true)
+  pub writing-numbers : EveryWriting (λ end a tables before w after. among (w .number) (0 ∷ 1 ∷ 18 ∷ 19 ∷ []) ≡ true)
   pub question-numbers : EveryQuestion (λ a tables place round s. among (s .number) (0 ∷ 1 ∷ 18 ∷ 20 ∷ []) ≡ true)
   -- "with line and round, by a fixed order": those of the first fault, in the order of `labels` (`Refused`), `writerDenials` and `questionDenials`
   pub reading-first : EveryReading (λ file before a after. 1 ≤ a .number → (x : Refusal) × Refused (enoughLent before) file x × (a ≡ refusedAnswer x))
-  pub writing-first : EveryWriting (λ a tables before w after. 1 ≤ w .number → (d : Denial) × FirstIn (WriterDenies a tables (length before)) writerDenials d × (w ≡ writtenAnswer (denialOf d) 0))
+  pub writing-first : EveryWriting (λ end a tables before w after. 1 ≤ w .number → (d : Denial) × FirstIn (WriterDenies end a tables (length before)) writerDenials d × (w ≡ writtenAnswer (denialOf d) 0))
   pub question-first : EveryQuestion (λ a tables place round s. 1 ≤ s .number → (d : Denial) × FirstIn (QuestionDenies a tables (place .0) round) questionDenials d × (s ≡ scoreAnswer (denialOf d) 0 0))
   -- "A refused reading clears the lent tables": every listed cell is zero, the others are as they were
   pub refused-clears : EveryReading (λ file before a after. 1 ≤ a .number → enoughLent before ≡ true → HoldLent zeros (λ i. 0) before after)
   -- "a refused writing leaves the output untouched"
-  pub refused-untouched : EveryWriting (λ a tables before w after. 1 ≤ w .number → after ≡ before)
+  pub refused-untouched : EveryWriting (λ end a tables before w after. 1 ≤ w .number → after ≡ before)
   -- "If any lent table is too short, none is touched." Writer and question never change a table: they are lent no table to write
   pub reading-short : EveryReading (λ file before a after. enoughLent before ≡ false → (a ≡ refusedAnswer (refusal 1 0 0)) × (after ≡ before))
-  pub writing-short : EveryWriting (λ a tables before w after. enough tables ≡ false → (w ≡ writtenAnswer (refusal 1 0 0) 0) × (after ≡ before))
+  pub writing-short : EveryWriting (λ end a tables before w after. enough tables ≡ false → (w ≡ writtenAnswer (refusal 1 0 0) 0) × (after ≡ before))
   pub question-short : EveryQuestion (λ a tables place round s. enough tables ≡ false → s ≡ scoreAnswer (refusal 1 0 0) 0 0)
 
 -- ---- a letter that is "not given in 162": no slot of a 162 among the items has it
@@ -88,11 +88,13 @@ pub record Demand-2 : Type 0 where
   pub own-unknown : (items : List Item) → NotGiven (code "X") items → tournamentOf items .scoring .unknown ≡ tournamentOf items .scoring .draw
   -- "every refusal with its place": given exactly when it is the first fault
   pub reading-refusals : EveryReading (λ file before a after. (x : Refusal) → (a ≡ refusedAnswer x) ↔ Refused (enoughLent before) file x)
-  pub writing-refusals : EveryWriting (λ a tables before w after. (d : Denial) → (w ≡ writtenAnswer (denialOf d) 0) ↔ FirstIn (WriterDenies a tables (length before)) writerDenials d)
+  pub writing-refusals : EveryWriting (λ end a tables before w after. (d : Denial) → (w ≡ writtenAnswer (denialOf d) 0) ↔ FirstIn (WriterDenies end a tables (length before)) writerDenials d)
   pub question-refusals : EveryQuestion (λ a tables place round s. (d : Denial) → (s ≡ scoreAnswer (denialOf d) 0 0) ↔ FirstIn (QuestionDenies a tables (place .0) round) questionDenials d)
   -- "every byte that the writer puts out": those of the tournament that was read, which `held-no-other` says is one, and after them the output as it was
-  pub bytes : EveryWriting (λ a tables before w after. w .number ≡ 0 → (file : List ℕ) × (t : Tournament) × Reading a tables file t
-      × (w ≡ writtenAnswer noRefusal (length (written writerEnd t))) × (after ≡ written writerEnd t ++ drop (length (written writerEnd t)) before))
+  pub bytes : EveryWriting (λ end a tables before w after. w .number ≡ 0 → (file : List ℕ) × (t : Tournament) × Reading a tables file t
+      × (w ≡ writtenAnswer noRefusal (length (written end t))) × (after ≡ written end t ++ drop (length (written end t)) before))
+  -- document 02: "The writer's default becomes CR LF"; who wants CR alone asks for it, by `true` in the call
+  pub line-ends : (t : Tournament) → (written (endOf false) t ≡ flat (λ line. line ++ (13 ∷ 10 ∷ [])) (writtenLines t)) × (written (endOf true) t ≡ flat (λ line. line ++ (13 ∷ [])) (writtenLines t))
   -- and the question's two values
   pub values : EveryQuestion (λ a tables place round s. s .number ≡ 0 → (file : List ℕ) × (t : Tournament) × Reading a tables file t
       × (s ≡ scoreAnswer noRefusal (earnedBefore t (place .0) round) (accelerationFor t (place .0) round)))
@@ -127,10 +129,13 @@ pub record Demand-3 : Type 0 where
   -- "For each lawful tournament": each has a spelling of a size that the box carries, and so a reading, into any tables that are long enough
   pub each-spelled : (t : Tournament) → Lawful t → (file : List ℕ) × (length file ≤ mostFile) × SpellsFile file t
   pub each-read : (t : Tournament) → Lawful t → (before : Lent) → enoughLent before ≡ true → (file : List ℕ) × (a : Answer) × (after : Lent) × Reads file before a after × Reading a (after .tables) file t
-  -- "what the writer produces, given room, is one of its spellings": room for at most 61,141 bytes
-  pub writer-spells : EveryWriting (λ a tables before w after. (file : List ℕ) (t : Tournament) → Reading a tables file t → length (written writerEnd t) ≤ length before
+  -- "what the writer produces, given room, is one of its spellings"; document 02: "either output is a spelling of the tournament". Room for at most `longest` bytes
+  pub writer-spells : EveryWriting (λ end a tables before w after. (file : List ℕ) (t : Tournament) → Reading a tables file t → length (written end t) ≤ length before
       → (w .number ≡ 0) × SpellsFile (take (w .length) after) t)
-  pub longest : (t : Tournament) → Lawful t → length (written writerEnd t) ≤ 61141
+  pub longest-written : (end : End) (t : Tournament) → Lawful t → length (written end t) ≤ longest end
+  pub longest-reached : (end : End) → (t : Tournament) × Lawful t × (length (written end t) ≡ longest end)
+  -- so that, given room for the longest, what was read is written
+  pub read-written : EveryReading (λ file before a after. a .number ≡ 0 → (end : End) (out : List ℕ) → longest end ≤ length out → (w : Written) (x : List ℕ) → Writes end a (after .tables) out w x → w .number ≡ 0)
   -- and is accepted and read back: the same answer, and the same in every listed cell
-  pub read-back : EveryWriting (λ a tables before w after. w .number ≡ 0 → (lent : Lent) → enoughLent lent ≡ true → (b : Answer) (x : Lent) → Reads (take (w .length) after) lent b x
+  pub read-back : EveryWriting (λ end a tables before w after. w .number ≡ 0 → (lent : Lent) → enoughLent lent ≡ true → (b : Answer) (x : Lent) → Reads (take (w .length) after) lent b x
       → (b .number ≡ 0) × (b ≡ a) × SameCells (x .tables) tables)

@@ -5,7 +5,7 @@ use types::Answer;
 use types::Place;
 use types::Score;
 use types::Written;
-ghost use Rattle.law.specs.Calls.{Reads, Writes, Asks};
+ghost use Rattle.law.specs.Calls.{Reads, endOf, Writes, Asks};
 ghost use Rattle.face.specs.Lent.{before, after, given};
 
 // Reads a file into the tables.
@@ -42,7 +42,7 @@ pub extern "C" fn trf_read(
     found.answer
 }
 
-// Writes the tournament of a reading into the output.
+// Writes the tournament of a reading into the output, each line ended with CR LF, or with CR alone where the caller asks for that.
 #[no_mangle]
 pub extern "C" fn trf_write(
     answer: Answer,
@@ -55,9 +55,10 @@ pub extern "C" fn trf_write(
     results: &[u8],
     text: &[u8],
     accelerations: &[Acceleration],
+    cr_alone: bool,
     out: &mut [u8],
 ) -> Written
-    ensures { λ r. ⌜ Writes answer (given starts points ranks kept opponents colours results text accelerations) (now (out .entry)) r (now (out .exit)) ⌝ }
+    ensures { λ r. ⌜ Writes (endOf «cr_alone») answer (given starts points ranks kept opponents colours results text accelerations) (now (out .entry)) r (now (out .exit)) ⌝ }
 {
     let start = lent_records::starting(accelerations.len());
     let all = lent_records::taken(accelerations, start.blank, start.n);
@@ -73,6 +74,7 @@ pub extern "C" fn trf_write(
         text,
         all,
         accelerations.len(),
+        cr_alone,
         out,
     )
 }

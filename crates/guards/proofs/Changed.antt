@@ -1,11 +1,11 @@
--- Tables and answer that no accepted file has, over every content: writer and question answer 18, whatever the room, the place and the round. Assumes nothing.
+-- Tables and answer that no accepted file has, over every content: writer and question answer 18, whatever the line ends, the room, the place and the round. Assumes nothing.
 use mathlib.Core.Path.{_≡_, refl, sym, ap, _∙_, subst}
 use mathlib.Core.Bool.{Bool, true, false, _||_}
 use mathlib.Core.Option.{none}
 use mathlib.Core.List.{List, [], _∷_, map}
 use Prim.Native.Nat.{ℕ, zero, suc, _<_, _≤_}
 use lib.Dec.{eqb, leb}
-use lib.ListN.{length, getD, length-map, List·getD-eq-default}
+use lib.ListN.{length, getD, List·getD-eq-default}
 use Rattle.kit.specs.Lists.{all, among, flat}
 use Rattle.kit.proofs.Bools.{clash}
 use Rattle.kit.proofs.Firsts.{all-of-at}
@@ -14,6 +14,7 @@ use Rattle.types.specs.declared.Written.{Written}
 use Rattle.types.specs.declared.Score.{Score}
 use Rattle.types.specs.declared.Place.{Place}
 use Rattle.law.specs.Sizes.{mostPlayers, mostText, mostPoints, isStart}
+use Rattle.law.specs.Lines.{End}
 use Rattle.law.specs.Heads.{initialColours}
 use Rattle.law.specs.Tournament.{Player}
 use Rattle.law.specs.Text.{ended}
@@ -26,7 +27,7 @@ use Rattle.law.proofs.Replies.{writeOf, askOf}
 use Rattle.law.proofs.RepliesRight.{writes-as, asks-as}
 
 pub record Denied (answer : Answer) (tables : Tables) : Type 0 where
-  pub writer : (out : List ℕ) (w : Written) (x : List ℕ) → Writes answer tables out w x → w .number ≡ 18
+  pub writer : (end : End) (out : List ℕ) (w : Written) (x : List ℕ) → Writes end answer tables out w x → w .number ≡ 18
   pub question : (place : Place) (round : ℕ) (s : Score) → Asks answer tables place round s → s .number ≡ 18
 
 start-at : (l : List Player) (i : ℕ) → getD (map (λ (p : Player). p .start) l) i 0 ≡ getD l i noPlayer .start
@@ -39,7 +40,7 @@ module _ (answer : Answer) (tables : Tables) (long : enough tables ≡ true) whe
   unfolding writtenAnswer scoreAnswer
   denied n =
       record {
-        writer = λ out w x k. ap (λ (w : Written). w .number) (writes-as answer tables none n out w x k .0) ∙ ap (λ (b : Bool). writeOf b none (length out) .number) long;
+        writer = λ end out w x k. ap (λ (w : Written). w .number) (writes-as answer tables none n end out w x k .0) ∙ ap (λ (b : Bool). writeOf end b none (length out) .number) long;
         question = λ place round s k. ap (λ (s : Score). s .number) (asks-as answer tables none n place round s k) ∙ ap (λ (b : Bool). askOf b none (place .0) round .number) long;
       }
 

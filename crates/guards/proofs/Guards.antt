@@ -22,10 +22,10 @@ use Rattle.law.specs.Writing.{writtenLines, written, earnedBefore, acceleration
 use Rattle.law.specs.Calls.{refusedAnswer, writtenAnswer, scoreAnswer}
 use Rattle.law.proofs.RecordsRead.{itemOf}
 use Rattle.law.proofs.Judges.{outcomeOf}
-use Rattle.law.proofs.Rows.{starts, points, ranks, added, first-rounds, last-rounds, first-starts, last-starts, initial-colour, value, as-left, cut-short, Row, refuses, accepts, answers, scores, stores, writes, asks, fitting, spells, spells-nothing, RowHolds, test, Computed}
+use Rattle.law.proofs.Rows.{starts, points, ranks, added, first-rounds, last-rounds, first-starts, last-starts, initial-colour, value, as-left, cut-short, cr-lf, cr-alone, Row, refuses, accepts, answers, scores, stores, writes, asks, fitting, spells, spells-nothing, RowHolds, test, Computed}
 use Rattle.law.proofs.Samples.{all-computed}
 use Rattle.law.proofs.Marked.{line, cup, roe, poe, sampleT}
-use Rattle.law.proofs.Layouts.{put, person, keptRow, rowWith, rowOfTexts, crlf-line, alone, two, twoAt, after, note, fullText, scoring, threePoints, aloneWithU, roeLine, event, eventWritten, highest, accelerated, wrongSum}
+use Rattle.law.proofs.Layouts.{put, person, keptRow, rowWith, rowOfTexts, crlf-line, withLF, alone, two, twoAt, after, note, fullText, scoring, threePoints, aloneWithU, roeLine, event, eventWritten, highest, accelerated, wrongSum}
 
 -- one line, or a 001 line with one kept text, spells an item or none
 abbrev pub right : String → Row
@@ -46,7 +46,7 @@ values s w d l a p x = stores (after (line s)) ((value, 0, w) ∷ (value, 1, d) 
 
 -- ---- the rows
 unfoldable pub guardRows : List Computed
-unfolding put person keptRow rowWith rowOfTexts crlf-line alone two twoAt after note fullText scoring threePoints aloneWithU roeLine event eventWritten highest accelerated wrongSum line cup roe poe sampleT test cells flat top scoringOf shares covers kindOf normal usedRounds roundsOf tournamentOf isBye isGame fits keeps worth earned isPast contentOf answerOf isAgain isTooMany linesOf isFileFault labels writtenLines written earnedBefore accelerationFor refusedAnswer writtenAnswer scoreAnswer itemOf outcomeOf
+unfolding put person keptRow rowWith rowOfTexts crlf-line withLF alone two twoAt after note fullText scoring threePoints aloneWithU roeLine event eventWritten highest accelerated wrongSum line cup roe poe sampleT test cells flat top scoringOf shares covers kindOf normal usedRounds roundsOf tournamentOf isBye isGame fits keeps worth earned isPast contentOf answerOf isAgain isTooMany linesOf isFileFault labels writtenLines written earnedBefore accelerationFor refusedAnswer writtenAnswer scoreAnswer itemOf outcomeOf
 guardRows =
     -- ---- lines that spell an item
     (right "", refl) ∷ (right "   ", refl) ∷ (right "### any", refl) ∷ (right "162  W 3.0    D 1.0", refl) ∷ (right "162  X10.5   ", refl) ∷
@@ -117,9 +117,9 @@ guardRows =
     (fitting (code "D") (ascii "D") (ascii "1=0WL+-HFUZ"), refl) ∷ (fitting (code "L") (ascii "W") (ascii "1=0DL+-HFUZ"), refl) ∷
     (fitting (code "+") (ascii "-") (ascii "1=0WDL+HFUZ"), refl) ∷ (fitting (code "-") (ascii "+-") (ascii "1=0WDLHFUZ"), refl) ∷
     -- ---- refused answers: 18, with room and without, at any place; tables that are too short: 1, whatever else is wrong
-    (writes as-left [] ((700, 18, []) ∷ (0, 18, []) ∷ []), refl) ∷
+    (writes as-left [] ((cr-lf, 700, 18, []) ∷ (cr-alone, 0, 18, []) ∷ []), refl) ∷
     (asks as-left wrongSum ((0, 1, 18, 0, 0) ∷ (2, 0, 18, 0, 0) ∷ []), refl) ∷ (asks as-left [] ((0, 1, 18, 0, 0) ∷ (0, 0, 18, 0, 0) ∷ []), refl) ∷
-    (writes cut-short sampleT ((700, 1, []) ∷ (0, 1, []) ∷ []), refl) ∷ (writes cut-short wrongSum ((700, 1, []) ∷ (0, 1, []) ∷ []), refl) ∷
+    (writes cut-short sampleT ((cr-lf, 700, 1, []) ∷ (cr-alone, 700, 1, []) ∷ (cr-lf, 0, 1, []) ∷ []), refl) ∷ (writes cut-short wrongSum ((cr-lf, 700, 1, []) ∷ (cr-alone, 0, 1, []) ∷ []), refl) ∷
     (asks cut-short sampleT ((0, 1, 1, 0, 0) ∷ (2, 0, 1, 0, 0) ∷ []), refl) ∷ (asks cut-short wrongSum ((0, 1, 1, 0, 0) ∷ (2, 0, 1, 0, 0) ∷ []), refl) ∷
     -- ---- the question
     (asks as-left accelerated ((0, 2, 0, 0, 0) ∷ (1, 1, 0, 0, 0) ∷ (1, 2, 0, 0, 125) ∷ (1, 3, 0, 0, 125) ∷ (1, 4, 0, 0, 0) ∷ (2, 3, 0, 0, 125) ∷ (3, 2, 0, 0, 0) ∷ (3, 5, 20, 0, 0) ∷ (4, 4, 20, 0, 0) ∷ []), refl) ∷
@@ -128,6 +128,7 @@ guardRows =
     (
       writes as-left (two " 1.0" "   2 w +" " 0.0" "   1 b -" ++ line "142 020")
           ((
+            cr-alone,
             700,
             0,
             cup ++ (line "142 20" ++ (line "162  W 1.0    D 0.5    L 0.0    A 0.0    P 1.0    X 0.5" ++
@@ -136,15 +137,33 @@ guardRows =
           ) ∷ []),
       refl,
     ) ∷
-    (writes as-left highest ((234, 0, highest) ∷ []), refl) ∷
+    (writes as-left highest ((cr-alone, 234, 0, highest) ∷ (cr-lf, 240, 0, withLF highest) ∷ (cr-lf, 239, 19, []) ∷ []), refl) ∷
+    -- with CR LF, spelled out: every line has its LF, the text's too, though the text's table has none and the file had none
+    (
+      writes as-left (line "022 x" ++ (cup ++ alone))
+          ((
+            cr-lf,
+            171,
+            0,
+            crlf-line "022 x" ++ (crlf-line "012 Cup" ++ (crlf-line "142 0" ++ (crlf-line "162  W 1.0    D 0.5    L 0.0    A 0.0    P 1.0    X 0.5" ++
+                (put 1 ((1, "001") ∷ (5, "   1") ∷ (81, " 0.0") ∷ (86, "   1") ∷ []) ++ (13 ∷ 10 ∷ []))))),
+          ) ∷ (cr-lf, 170, 19, []) ∷ []),
+      refl,
+    ) ∷
+    -- and with CR alone none has, though the file's had
+    (
+      writes as-left (withLF (cup ++ alone))
+          ((cr-alone, 160, 0, cup ++ (line "142 0" ++ (line "162  W 1.0    D 0.5    L 0.0    A 0.0    P 1.0    X 0.5" ++ alone))) ∷ (cr-alone, 159, 19, []) ∷ []),
+      refl,
+    ) ∷
     -- six slots, whichever were given; P and X of any size
     (
       writes as-left (aloneWithU threePoints " 3.0")
-          ((170, 0, cup ++ (line "142 1" ++ (line "162  W 3.0    D 1.0    L 0.0    A 0.0    P 3.0    X 1.0" ++ person "   1" " 3.0" "   1" ((92, "0000 - U") ∷ [])))) ∷ (169, 19, []) ∷ []),
+          ((cr-alone, 170, 0, cup ++ (line "142 1" ++ (line "162  W 3.0    D 1.0    L 0.0    A 0.0    P 3.0    X 1.0" ++ person "   1" " 3.0" "   1" ((92, "0000 - U") ∷ [])))) ∷ (cr-alone, 169, 19, []) ∷ []),
       refl,
     ) ∷ (
       writes as-left (aloneWithU "162  P 0.4    X 0.6" " 0.4")
-          ((170, 0, cup ++ (line "142 1" ++ (line "162  W 1.0    D 0.5    L 0.0    A 0.0    P 0.4    X 0.6" ++ person "   1" " 0.4" "   1" ((92, "0000 - U") ∷ [])))) ∷ []),
+          ((cr-alone, 170, 0, cup ++ (line "142 1" ++ (line "162  W 1.0    D 0.5    L 0.0    A 0.0    P 0.4    X 0.6" ++ person "   1" " 0.4" "   1" ((92, "0000 - U") ∷ [])))) ∷ []),
       refl,
     ) ∷
     -- ---- the tables and the answer

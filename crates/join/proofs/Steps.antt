@@ -9,7 +9,7 @@ use lib.Dec.{eqb, ltb}
 use lib.ListN.{length, getD, set, replicate, length-append, length-replicate, List·getD-map}
 use lib.Seq.{append-snoc}
 use borrow.Author.Tests.{ltb-false, le-leb}
-use Rattle.kit.specs.Lists.{all, any, among, same, isOneOf, isEmpty, eachAfter, onlyOr, flat, first}
+use Rattle.kit.specs.Lists.{all, any, among, isOneOf, isEmpty, eachAfter, onlyOr, flat, first}
 use Rattle.kit.specs.First.{AllOf}
 use Rattle.kit.specs.Decides.{to, isSome}
 use Rattle.kit.specs.Table.{Holds}
@@ -20,11 +20,11 @@ use Rattle.law.specs.Sizes.{mostLine, mostPlayers, mostAccelerations, mostText}
 use Rattle.law.specs.Lines.{allowed, Line, isEnded}
 use Rattle.law.specs.Columns.{rowOf, part, codeField}
 use Rattle.law.specs.Text.{textCodes, ended, SpellsText}
-use Rattle.law.specs.Heads.{initialColours, roundsCode, colourCode}
-use Rattle.law.specs.Scoring.{values, scoringOf, scoringCode}
+use Rattle.law.specs.Heads.{initialColours}
+use Rattle.law.specs.Scoring.{values, scoringOf}
 use Rattle.law.specs.Accelerations.{accelerationCode}
 use Rattle.law.specs.Players.{PlayerLine, playerCode}
-use Rattle.law.specs.Items.{Item, passed, text, rounds, colour, scoring, acceleration, player, Kind, passed-over, kept-text, 142-record, 152-record, 162-record, 250-record, 001-record, unlisted, isPassed, kindOf}
+use Rattle.law.specs.Items.{Item, passed, text, rounds, colour, scoring, acceleration, player, Kind, passed-over, kept-text, 142-record, 152-record, 162-record, 250-record, 001-record, unlisted, kindOf}
 use Rattle.law.specs.Lawful.{noAcceleration}
 use Rattle.law.specs.Tournament.{textIn, roundsIn, colourIn, scoringIn, accelerationIn, playerIn}
 use Rattle.law.specs.Spelling.{isSound, SpellsLine, noLine}
@@ -34,9 +34,8 @@ use Rattle.law.proofs.ColumnLaws.{cells-blanks}
 use Rattle.law.proofs.Faults.{lineItems, line, lines-spelled, isUnlisted, testAfter, testLine}
 use Rattle.law.proofs.LinesRead.{isNew, isFew, LinesGood, each-snoc}
 use Rattle.law.proofs.LinesLawful.{fine, colours-fine, players-fine}
-use Rattle.law.proofs.LawfulTested.{isText}
 use Rattle.law.proofs.NewAndFew.{few-fits}
-use Rattle.law.proofs.Seats.{player-lines, acceleration-lines, is001, is250, player-code-is, acceleration-code-is}
+use Rattle.law.proofs.Seats.{text-listed, player-lines, acceleration-lines, is001, is250, player-code-is, acceleration-code-is}
 use Rattle.join.specs.Run.{Way, on, stop, Match}
 use Rattle.join.specs.Store.{Nine, Count, State, state, storePlayer, storeText, storeLine, countPlayer, countText, countRounds, countColour, countScoring, countAcceleration, codePlace, placeOf, refuseOr, stepText, stepRounds, stepColour, stepScoring, stepAcceleration, stepPlayer, stepRow, stepLine}
 use Rattle.join.specs.Grid.{firstFrom}
@@ -90,21 +89,6 @@ good-snoc e is l i g s h n f =
       new = after-snoc isNew [] is i (g .new) (ap not n);
       few = after-snoc isFew [] is i (g .few) (ap not f);
     }
-
--- ---- a kept text line has one of the sixteen codes
-text-listed : (row : List ℕ) → kindOf row ≡ kept-text → isOneOf (part codeField row) textCodes ≡ true
-unfolding kindOf
-text-listed row k = go (isPassed row) (isOneOf (part codeField row) textCodes) (same (part codeField row) roundsCode) (same (part codeField row) colourCode) (same (part codeField row) scoringCode) (same (part codeField row) accelerationCode) (same (part codeField row) playerCode) (ap isText k)
-  where
-    go : (a o p q r u v : Bool) → isText (cond a passed-over (cond o kept-text (cond p 142-record (cond q 152-record (cond r 162-record (cond u 250-record (cond v 001-record unlisted))))))) ≡ true → o ≡ true
-    go true o p q r u v e = clash e
-    go false true p q r u v e = refl
-    go false false true q r u v e = clash e
-    go false false false true r u v e = clash e
-    go false false false false true u v e = clash e
-    go false false false false false true v e = clash e
-    go false false false false false false true e = clash e
-    go false false false false false false false e = clash e
 
 -- ---- one line after a state
 module _ (b : Nine) (long : Long b) (e : List Line) (s : State) (h : After b e s) (l : Line) (sound : isSound l ≡ true) where

@@ -22,7 +22,7 @@ use Rattle.law.specs.Heads.{initialColours}
 use Rattle.law.specs.Scoring.{values}
 use Rattle.law.specs.Accelerations.{isAcceleration}
 use Rattle.law.specs.Players.{keptField}
-use Rattle.law.specs.Items.{Item, Kind, passed-over, kept-text, 142-record, 152-record, 162-record, 250-record, 001-record, unlisted, kindOf}
+use Rattle.law.specs.Items.{Item, kindOf}
 use Rattle.law.specs.Tournament.{Player, Tournament, roundsIn, colourIn, scoringIn, playerIn, tournamentOf}
 use Rattle.law.specs.Entries.{Law, bye-or-game, mutual-pairing, fitting-results, one-U, keeps, statesSum}
 use Rattle.law.specs.Lawful.{KeptLine, LawfulPlayer, Sits, isTaken, sharesEarlier, Lawful}
@@ -30,6 +30,7 @@ use Rattle.law.specs.Spelling.{isSound, isPast, SpellsFile}
 use Rattle.law.proofs.Cut.{cut, lines-are, lines-unique}
 use Rattle.law.proofs.RecordsRead.{textOf, text-line, isKept, kept-columns}
 use Rattle.law.proofs.Faults.{lineItems, lines-spelled}
+use Rattle.law.proofs.Seats.{isText, text-is}
 use Rattle.law.proofs.Accepts.{all-of-true}
 
 -- ---- of all numbers of a run, and of all of a list
@@ -100,26 +101,6 @@ file = record { sound = sound; complete = complete }
         ) (ap some (sym (s .tournament)))
 
 -- ---- a kept text line
-abbrev pub isText : Kind → Bool
-isText passed-over = false
-isText kept-text = true
-isText 142-record = false
-isText 152-record = false
-isText 162-record = false
-isText 250-record = false
-isText 001-record = false
-isText unlisted = false
-
-text-is : (k : Kind) → isText k ≡ true → k ≡ kept-text
-text-is passed-over e = clash e
-text-is kept-text e = refl
-text-is 142-record e = clash e
-text-is 152-record e = clash e
-text-is 162-record e = clash e
-text-is 250-record e = clash e
-text-is 001-record e = clash e
-text-is unlisted e = clash e
-
 abbrev pub isItself : Option (List ℕ) → List ℕ → Bool
 isItself none line = false
 isItself (some a) line = same a line

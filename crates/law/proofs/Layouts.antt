@@ -1,7 +1,9 @@
 -- Report files and lines of our own, laid out by hand, apart from the statement's own columns: what the rows of `Watched`, and of the crate `guards`, are about. Definitions alone.
+use mathlib.Core.Bool.{cond}
 use mathlib.Core.List.{List, [], _∷_, _++_}
 use Prim.Native.Nat.{ℕ, _+_, _-_}
 use Prim.Native.String.{String}
+use lib.Dec.{eqb}
 use lib.ListN.{length, replicate}
 use Rattle.kit.specs.Ascii.{ascii}
 use Rattle.law.proofs.Marked.{line, cup}
@@ -29,6 +31,11 @@ rowOfTexts texts = put 1 ((1, "001") ∷ texts)
 
 unfoldable pub crlf-line : String → List ℕ
 crlf-line s = ascii s ++ (13 ∷ 10 ∷ [])
+
+-- a file whose lines end with CR alone, with an LF after each CR
+unfoldable pub withLF : List ℕ → List ℕ
+withLF [] = []
+withLF (c ∷ l) = cond (eqb c 13) (13 ∷ 10 ∷ []) (c ∷ []) ++ withLF l
 
 -- one player, no rounds
 unfoldable pub alone : List ℕ
@@ -73,7 +80,7 @@ event =
     line "### first" ++ (line "012 Cup  " ++ (line "250      00.5 001 002 0007 9999" ++ (roeLine "   7 w 1         U" ++ (10 ∷ (line "022 x" ++ (line "250       1.0   3   3    1    1" ++
     (person "   7" " 0.0" "   1" ((92, "  12 b 0     0") ∷ []) ++ (line "162  W10.0    D 1.5" ++ (line "152 B" ++ line "142 3")))))))))
 
--- and what the writer makes of it
+-- and what the writer makes of it, with CR alone
 unfoldable pub eventWritten : List ℕ
 eventWritten =
     line "012 Cup" ++ (line "022 x" ++ (line "142 3" ++ (line "152 B" ++ (line "162  W10.0    D 1.5    L 0.0    A 0.0    P10.0    X 1.5" ++

@@ -21,12 +21,13 @@ use Rattle.types.specs.declared.Written.{Written}
 use Rattle.types.specs.declared.Score.{Score}
 use Rattle.types.specs.declared.Place.{Place}
 use Rattle.law.specs.Sizes.{mostPlayers, mostAccelerations, mostText}
+use Rattle.law.specs.Lines.{End}
 use Rattle.law.specs.Tournament.{Tournament}
 use Rattle.law.specs.Lawful.{noAcceleration}
 use Rattle.law.specs.Tables.{Tables, Lent, keptCells, entryCells, lineCells, areLong, enough, enoughLent, Content, contentOf, linesContent, zeros, HoldAll, HoldLent, answerOf}
 use Rattle.law.specs.Refusals.{noRefusal, Refusal, Outcome, refused, accepted, Judged}
 use Rattle.law.specs.Writing.{written, earnedBefore, accelerationFor}
-use Rattle.law.specs.Calls.{refusedAnswer, Cleared, Leaves, Reads, Reading, Denial, tables-short, no-reading, out-short, no-place, denialOf, NoReading, writerEnd, WriterDenies, writerDenials, writtenAnswer, Writes, write-refused, write-done, QuestionDenies, questionDenials, scoreAnswer, Asks, ask-refused, ask-done}
+use Rattle.law.specs.Calls.{refusedAnswer, Cleared, Leaves, Reads, Reading, Denial, tables-short, no-reading, out-short, no-place, denialOf, NoReading, WriterDenies, writerDenials, writtenAnswer, Writes, write-refused, write-done, QuestionDenies, questionDenials, scoreAnswer, Asks, ask-refused, ask-done}
 use Rattle.law.proofs.Judges.{outcomeOf, is-judged}
 use Rattle.law.proofs.ReadsOnce.{lent-enough}
 use Rattle.law.proofs.Readings.{refused-not-0, reading-has, one-reading}
@@ -52,18 +53,18 @@ module _ (answer : Answer) (tables : Tables) where
   of-reading none r file t k = absurd (r file t k)
   of-reading (some u) r file t k = ap some (one-reading answer tables (r .0) file u t (r .1) k)
 
-  writer-sound : (o : Option Tournament) → IsReadingOf answer tables o → (room : ℕ) (d : Denial) → writerDenied (enough tables) o room d ≡ true → WriterDenies answer tables room d
-  writer-sound o r room tables-short e = not-true (enough tables) e
-  writer-sound o r room no-reading e = unread-sound o r e
-  writer-sound none r room out-short e = clash e
-  writer-sound (some t) r room out-short e = record { file = r .0; t = t; reading = r .1; short = ltb-true room (length (written writerEnd t)) e }
-  writer-sound o r room no-place e = clash e
+  writer-sound : (end : End) (o : Option Tournament) → IsReadingOf answer tables o → (room : ℕ) (d : Denial) → writerDenied end (enough tables) o room d ≡ true → WriterDenies end answer tables room d
+  writer-sound end o r room tables-short e = not-true (enough tables) e
+  writer-sound end o r room no-reading e = unread-sound o r e
+  writer-sound end none r room out-short e = clash e
+  writer-sound end (some t) r room out-short e = record { file = r .0; t = t; reading = r .1; short = ltb-true room (length (written end t)) e }
+  writer-sound end o r room no-place e = clash e
 
-  writer-complete : (o : Option Tournament) → IsReadingOf answer tables o → (room : ℕ) (d : Denial) → WriterDenies answer tables room d → writerDenied (enough tables) o room d ≡ true
-  writer-complete o r room tables-short h = ap not h
-  writer-complete o r room no-reading h = unread-complete o r h
-  writer-complete o r room out-short h = ap (λ (q : Option Tournament). isTooLong q room) (of-reading o r (h .file) (h .t) (h .reading)) ∙ lt-ltb room (length (written writerEnd (h .t))) (h .short)
-  writer-complete o r room no-place h = absurd h
+  writer-complete : (end : End) (o : Option Tournament) → IsReadingOf answer tables o → (room : ℕ) (d : Denial) → WriterDenies end answer tables room d → writerDenied end (enough tables) o room d ≡ true
+  writer-complete end o r room tables-short h = ap not h
+  writer-complete end o r room no-reading h = unread-complete o r h
+  writer-complete end o r room out-short h = ap (λ (q : Option Tournament). isTooLong end q room) (of-reading o r (h .file) (h .t) (h .reading)) ∙ lt-ltb room (length (written end (h .t))) (h .short)
+  writer-complete end o r room no-place h = absurd h
 
   question-sound : (o : Option Tournament) → IsReadingOf answer tables o → (place round : ℕ) (d : Denial) → questionDenied (enough tables) o place round d ≡ true → QuestionDenies answer tables place round d
   question-sound o r place round tables-short e = not-true (enough tables) e
@@ -95,21 +96,21 @@ module _ (answer : Answer) (tables : Tables) where
       h .outside (ltb-true place (length (t .players)) (b .0), leb-true 1 round (b .1), leb-true round (t .rounds) (a .1))))
 
   module _ (o : Option Tournament) (r : IsReadingOf answer tables o) where
-    pub writer-tests : (room : ℕ) → Tests (WriterDenies answer tables room) (writerDenied (enough tables) o room)
-    writer-tests room = record { sound = writer-sound o r room; complete = writer-complete o r room }
+    pub writer-tests : (end : End) (room : ℕ) → Tests (WriterDenies end answer tables room) (writerDenied end (enough tables) o room)
+    writer-tests end room = record { sound = writer-sound end o r room; complete = writer-complete end o r room }
 
     pub question-tests : (place round : ℕ) → Tests (QuestionDenies answer tables place round) (questionDenied (enough tables) o place round)
     question-tests place round = record { sound = question-sound o r place round; complete = question-complete o r place round }
 
     -- ---- what is permitted is what is computed
-    pub writes-as : (out : List ℕ) (w : Written) (x : List ℕ) → Writes answer tables out w x
-        → (w ≡ writeOf (enough tables) o (length out)) × Holds 0 (length (bytesOf (enough tables) o (length out))) (λ i. getD (bytesOf (enough tables) o (length out)) i 0) out x
-    writes-as out w x (write-refused q) =
-        rw (firsts (writer-tests (length out)) .complete writerDenials (q .denial) (q .first))
+    pub writes-as : (end : End) (out : List ℕ) (w : Written) (x : List ℕ) → Writes end answer tables out w x
+        → (w ≡ writeOf end (enough tables) o (length out)) × Holds 0 (length (bytesOf end (enough tables) o (length out))) (λ i. getD (bytesOf end (enough tables) o (length out)) i 0) out x
+    writes-as end out w x (write-refused q) =
+        rw (firsts (writer-tests end (length out)) .complete writerDenials (q .denial) (q .first))
         (q .says, subst (λ (l : List ℕ). Holds 0 0 (λ i. 0) out l) (sym (q .untouched)) (record { long = refl; cells = λ i l. absurd (omega arith); rest = λ i l. refl }))
-    writes-as out w x (write-done q) =
+    writes-as end out w x (write-done q) =
         let e = of-reading o r (q .file) (q .t) (q .reading) in
-        rw (found-none (writer-tests (length out)) writerDenials (q .no-denial), e) (q .says, q .bytes)
+        rw (found-none (writer-tests end (length out)) writerDenials (q .no-denial), e) (q .says, q .bytes)
 
     pub asks-as : (place : Place) (round : ℕ) (s : Score) → Asks answer tables place round s → s ≡ askOf (enough tables) o (place .0) round
     asks-as place round s (ask-refused q) = rw (firsts (question-tests (place .0) round) .complete questionDenials (q .denial) (q .first)) (q .says)
@@ -118,26 +119,27 @@ module _ (answer : Answer) (tables : Tables) where
         rw (found-none (question-tests (place .0) round) questionDenials (q .no-denial), e) (q .says)
 
   -- ---- and something is permitted
-  some-write : (o : Option Tournament) → IsReadingOf answer tables o → (out : List ℕ) → NoneOf (WriterDenies answer tables (length out)) writerDenials → (w : Written) × (x : List ℕ) × Writes answer tables out w x
-  some-write none r out n = absurd (n .1 .0 r)
-  some-write (some t) r out n =
-      let m = length (written writerEnd t) in
-      let f : ℕ → ℕ = λ i. getD (written writerEnd t) i 0 in
+  some-write : (end : End) (o : Option Tournament) → IsReadingOf answer tables o → (out : List ℕ) → NoneOf (WriterDenies end answer tables (length out)) writerDenials
+      → (w : Written) × (x : List ℕ) × Writes end answer tables out w x
+  some-write end none r out n = absurd (n .1 .0 r)
+  some-write end (some t) r out n =
+      let m = length (written end t) in
+      let f : ℕ → ℕ = λ i. getD (written end t) i 0 in
       let room : m ≤ length out = ltb-false (length out) m (not-so (ltb (length out) m) (λ e. n .1 .1 .0 (record { file = r .0; t = t; reading = r .1; short = ltb-true (length out) m e }))) in (
         writtenAnswer noRefusal m,
         filled 0 m f out,
         write-done (record { no-denial = n; file = r .0; t = t; reading = r .1; says = refl; bytes = filled-holds 0 m f out room }),
       )
 
-  pub writes-some : (o : Option Tournament) → IsReadingOf answer tables o → (out : List ℕ) → (w : Written) × (x : List ℕ) × Writes answer tables out w x
-  writes-some o r out = go (first t writerDenials) refl
+  pub writes-some : (end : End) (o : Option Tournament) → IsReadingOf answer tables o → (out : List ℕ) → (w : Written) × (x : List ℕ) × Writes end answer tables out w x
+  writes-some end o r out = go (first t writerDenials) refl
     where
       t : Denial → Bool
-      t = writerDenied (enough tables) o (length out)
+      t = writerDenied end (enough tables) o (length out)
 
-      go : (q : Option Denial) → first t writerDenials ≡ q → (w : Written) × (x : List ℕ) × Writes answer tables out w x
-      go (some d) e = (writtenAnswer (denialOf d) 0, out, write-refused (record { denial = d; first = firsts (writer-tests o r (length out)) .sound writerDenials d e; says = refl; untouched = refl }))
-      go none e = some-write o r out (none-found (writer-tests o r (length out)) writerDenials e)
+      go : (q : Option Denial) → first t writerDenials ≡ q → (w : Written) × (x : List ℕ) × Writes end answer tables out w x
+      go (some d) e = (writtenAnswer (denialOf d) 0, out, write-refused (record { denial = d; first = firsts (writer-tests o r end (length out)) .sound writerDenials d e; says = refl; untouched = refl }))
+      go none e = some-write end o r out (none-found (writer-tests o r end (length out)) writerDenials e)
 
   some-ask : (o : Option Tournament) → IsReadingOf answer tables o → (place : Place) (round : ℕ) → NoneOf (QuestionDenies answer tables (place .0) round) questionDenials → (s : Score) × Asks answer tables place round s
   some-ask none r place round n = absurd (n .1 .0 r)

@@ -22,7 +22,7 @@ use Rattle.law.specs.Entries.{fits, earned}
 use Rattle.law.specs.Lawful.{noAcceleration}
 use Rattle.law.specs.Tables.{Tables, Lent, enough, enoughLent, keptCells, entryCells, lineCells, contentOf, linesContent, answerOf}
 use Rattle.law.specs.Refusals.{Outcome, refused, accepted}
-use Rattle.law.specs.Calls.{refusedAnswer, Reads, Writes, Asks}
+use Rattle.law.specs.Calls.{refusedAnswer, Reads, endOf, Writes, Asks}
 use Rattle.law.proofs.RecordsRead.{itemOf}
 use Rattle.law.proofs.Judges.{outcomeOf}
 use Rattle.law.proofs.Replies.{writeOf, askOf, bytesOf, spelledBy}
@@ -98,9 +98,16 @@ cellOfTournament t ps rs value i = getD (answerOf t .values) i 0
 pub data LentAs : Type 0 where
   as-left cut-short : LentAs
 
--- bytes of room, number, bytes left
+-- whether CR alone is asked for, bytes of room, number, bytes left
 abbrev pub Output : Type 0
-Output = ℕ × ℕ × List ℕ
+Output = Bool × ℕ × ℕ × List ℕ
+
+-- how an output asks for its line ends
+abbrev pub cr-lf : Bool
+cr-lf = false
+
+abbrev pub cr-alone : Bool
+cr-alone = true
 
 -- place, round, number, sum, acceleration
 abbrev pub Question : Type 0
@@ -117,7 +124,7 @@ pub data Row : Type 0 where
   scores : List ℕ → List ℕ → ℕ → Row
   -- the file is accepted, and these cells then hold these numbers
   stores : List ℕ → List (Table × ℕ × ℕ) → Row
-  -- the writer, lent what the reader left for the file, or tables that are too short: for each output of so many bytes its number, and the bytes that then stand first
+  -- the writer, lent what the reader left for the file, or tables that are too short: for each output, by its line ends and its room, the number, and the bytes that then stand first
   writes : LentAs → List ℕ → List Output → Row
   -- the question, lent the same: for each place and round its number, sum and acceleration
   asks : LentAs → List ℕ → List Question → Row
@@ -177,8 +184,8 @@ pub record Replied (number sum acceleration : ℕ) (s : Score) : Type 0 where
 
 -- whatever is lent so: what every permitted answer is, and that one is permitted
 abbrev pub WritesSo : Answer → Tables → Output → Type 0
-WritesSo a tables q = (out : List ℕ) → length out ≡ q .0
-    → ((w : Written) (x : List ℕ) → Writes a tables out w x → Wrote (q .1) (q .2) out w x) × ((w : Written) × (x : List ℕ) × Writes a tables out w x)
+WritesSo a tables q = (out : List ℕ) → length out ≡ q .1
+    → ((w : Written) (x : List ℕ) → Writes (endOf (q .0)) a tables out w x → Wrote (q .2) (q .3) out w x) × ((w : Written) × (x : List ℕ) × Writes (endOf (q .0)) a tables out w x)
 
 abbrev pub AsksSo : Answer → Tables → Question → Type 0
 AsksSo a tables q =
@@ -248,7 +255,7 @@ abbrev pub isWrote : ℕ → List ℕ → Written → List ℕ → Bool
 isWrote number bytes w left = eqb (w .number) number && eqb (w .line .0) 0 && eqb (w .round) 0 && eqb (w .length) (length bytes) && same left bytes
 
 abbrev pub isWritten : Bool → Option Tournament → Output → Bool
-isWritten long o q = isWrote (q .1) (q .2) (writeOf long o (q .0)) (bytesOf long o (q .0))
+isWritten long o q = isWrote (q .2) (q .3) (writeOf (endOf (q .0)) long o (q .1)) (bytesOf (endOf (q .0)) long o (q .1))
 
 abbrev pub isReplied : ℕ → ℕ → ℕ → Score → Bool
 isReplied number sum acceleration s = eqb (s .number) number && eqb (s .line .0) 0 && eqb (s .round) 0 && eqb (s .points) sum && eqb (s .acceleration) acceleration

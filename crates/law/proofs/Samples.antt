@@ -23,7 +23,7 @@ use Rattle.law.specs.Tournament.{Tournament}
 use Rattle.law.specs.Entries.{fits, earned}
 use Rattle.law.specs.Tables.{Tables, Lent, enough, enoughLent, zeros, HoldLent, answerOf}
 use Rattle.law.specs.Refusals.{Refusal, Outcome, refused, accepted, Judged}
-use Rattle.law.specs.Calls.{refusedAnswer, Cleared, Leaves}
+use Rattle.law.specs.Calls.{refusedAnswer, Cleared, Leaves, endOf}
 use Rattle.law.proofs.RecordsRead.{itemOf, item}
 use Rattle.law.proofs.Judges.{outcomeOf, is-judged}
 use Rattle.law.proofs.ReadsOnce.{reads-some}
@@ -172,13 +172,14 @@ lent-is cut-short o answer after h tables e = (short-unread answer tables e, e)
 
 module _ (answer : Answer) (tables : Tables) (long : Bool) (o : Option Tournament) (r : IsReadingOf answer tables o) (enough-is : enough tables ≡ long) where
   write-so : (q : Output) → isWritten long o q ≡ true → WritesSo answer tables q
-  write-so q t out n = (
-    λ w x k.
-        let s = subst (λ (b : Bool). (w ≡ writeOf b o (length out)) × Holds 0 (length (bytesOf b o (length out))) (λ i. getD (bytesOf b o (length out)) i 0) out x) enough-is (writes-as answer tables o r out w x k) in
-        let u = subst (λ (m : ℕ). isWrote (q .1) (q .2) (writeOf long o m) (bytesOf long o m) ≡ true) (sym n) t in
-        wrote (q .1) (q .2) out w (writeOf long o (length out)) (bytesOf long o (length out)) x (s .0) (s .1) u,
-    writes-some answer tables o r out,
-  )
+  write-so q t out n =
+      let end = endOf (q .0) in (
+        λ w x k.
+            let s = subst (λ (b : Bool). (w ≡ writeOf end b o (length out)) × Holds 0 (length (bytesOf end b o (length out))) (λ i. getD (bytesOf end b o (length out)) i 0) out x) enough-is (writes-as answer tables o r end out w x k) in
+            let u = subst (λ (m : ℕ). isWrote (q .2) (q .3) (writeOf end long o m) (bytesOf end long o m) ≡ true) (sym n) t in
+            wrote (q .2) (q .3) out w (writeOf end long o (length out)) (bytesOf end long o (length out)) x (s .0) (s .1) u,
+        writes-some answer tables end o r out,
+      )
 
   ask-so : (q : Question) → isAsked long o q ≡ true → AsksSo answer tables q
   ask-so q t = (

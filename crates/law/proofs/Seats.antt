@@ -1,4 +1,4 @@
--- Which lines are the players' and the acceleration records', how many there are, and labels by place and round. Assumes nothing.
+-- Which lines are the players', the acceleration records' and the kept text's, how many there are, and labels by place and round. Assumes nothing.
 use mathlib.Core.Path.{_≡_, refl, sym, ap, _∙_, subst}
 use mathlib.Core.Bool.{Bool, true, false, cond}
 use mathlib.Core.List.{List, [], _∷_, map}
@@ -92,6 +92,43 @@ acceleration-code-is row = go (same (part codeField row) accelerationCode) refl
         rw p
         (sym
         (other (isPassed row) (isOneOf (part codeField row) textCodes) (same (part codeField row) roundsCode) (same (part codeField row) colourCode) (same (part codeField row) scoringCode) (same (part codeField row) playerCode)))
+
+abbrev pub isText : Kind → Bool
+isText passed-over = false
+isText kept-text = true
+isText 142-record = false
+isText 152-record = false
+isText 162-record = false
+isText 250-record = false
+isText 001-record = false
+isText unlisted = false
+
+pub text-is : (k : Kind) → isText k ≡ true → k ≡ kept-text
+text-is passed-over e = clash e
+text-is kept-text e = refl
+text-is 142-record e = clash e
+text-is 152-record e = clash e
+text-is 162-record e = clash e
+text-is 250-record e = clash e
+text-is 001-record e = clash e
+text-is unlisted e = clash e
+
+-- a kept text line has one of the sixteen codes
+pub text-listed : (row : List ℕ) → kindOf row ≡ kept-text → isOneOf (part codeField row) textCodes ≡ true
+unfolding kindOf
+text-listed row k =
+    go (isPassed row) (isOneOf (part codeField row) textCodes) (same (part codeField row) roundsCode) (same (part codeField row) colourCode) (same (part codeField row) scoringCode)
+    (same (part codeField row) accelerationCode) (same (part codeField row) playerCode) (ap isText k)
+  where
+    go : (a o p q r u v : Bool) → isText (cond a passed-over (cond o kept-text (cond p 142-record (cond q 152-record (cond r 162-record (cond u 250-record (cond v 001-record unlisted))))))) ≡ true → o ≡ true
+    go true o p q r u v e = clash e
+    go false true p q r u v e = refl
+    go false false true q r u v e = clash e
+    go false false false true r u v e = clash e
+    go false false false false true u v e = clash e
+    go false false false false false true v e = clash e
+    go false false false false false false true e = clash e
+    go false false false false false false false e = clash e
 
 unfoldable pub kind-of : Item → Kind
 kind-of passed = passed-over

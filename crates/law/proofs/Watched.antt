@@ -18,19 +18,25 @@ use Rattle.law.specs.Writing.{writtenLines, written, earnedBefore, accel
 use Rattle.law.specs.Calls.{refusedAnswer, writtenAnswer, scoreAnswer}
 use Rattle.law.proofs.RecordsRead.{itemOf}
 use Rattle.law.proofs.Judges.{outcomeOf}
-use Rattle.law.proofs.Rows.{starts, points, ranks, kept, opponents, colours, results, text, lines, added, first-rounds, last-rounds, first-starts, last-starts, text-length, initial-colour, value, as-left, refuses, accepts, stores, writes, asks, RowHolds, test, Computed}
+use Rattle.law.proofs.Rows.{starts, points, ranks, kept, opponents, colours, results, text, lines, added, first-rounds, last-rounds, first-starts, last-starts, text-length, initial-colour, value, as-left, refuses, accepts, stores, writes, asks, RowHolds, cr-lf, cr-alone, test, Computed}
 use Rattle.law.proofs.Samples.{all-computed}
 use Rattle.law.proofs.Marked.{line, cup}
-use Rattle.law.proofs.Layouts.{put, person, crlf-line, alone, two, note, fullText, threePoints, aloneWithU, roeLine, event, eventWritten, wrongSum}
+use Rattle.law.proofs.Layouts.{put, person, crlf-line, withLF, alone, two, note, fullText, threePoints, aloneWithU, roeLine, event, eventWritten, wrongSum}
 
 unfoldable pub watchedRows : List Computed
-unfolding put person crlf-line alone two note fullText threePoints aloneWithU roeLine event eventWritten wrongSum line cup test cells flat top scoringOf shares covers kindOf normal usedRounds roundsOf tournamentOf isBye isGame fits keeps worth earned isPast contentOf answerOf isAgain isTooMany linesOf isFileFault labels writtenLines written earnedBefore accelerationFor refusedAnswer writtenAnswer scoreAnswer itemOf outcomeOf
+unfolding put person crlf-line withLF alone two note fullText threePoints aloneWithU roeLine event eventWritten wrongSum line cup test cells flat top scoringOf shares covers kindOf normal usedRounds roundsOf tournamentOf isBye isGame fits keeps worth earned isPast contentOf answerOf isAgain isTooMany linesOf isFileFault labels writtenLines written earnedBefore accelerationFor refusedAnswer writtenAnswer scoreAnswer itemOf outcomeOf
 watchedRows =
     (accepts (aloneWithU threePoints " 3.0") 1 1 0, refl) ∷
     (stores (aloneWithU threePoints " 3.0") ((value, 0, 30) ∷ (value, 1, 10) ∷ (value, 2, 0) ∷ (value, 3, 0) ∷ (value, 4, 30) ∷ (value, 5, 10) ∷ []), refl) ∷
-    (writes as-left wrongSum ((700, 18, []) ∷ (0, 18, []) ∷ []), refl) ∷
+    (writes as-left wrongSum ((cr-lf, 700, 18, []) ∷ (cr-lf, 0, 18, []) ∷ (cr-alone, 700, 18, []) ∷ (cr-alone, 0, 18, []) ∷ []), refl) ∷
     (asks as-left event ((0, 1, 0, 0, 5) ∷ (0, 2, 0, 100, 5) ∷ (0, 3, 0, 200, 0) ∷ (1, 1, 0, 0, 5) ∷ (1, 3, 0, 0, 0) ∷ (2, 1, 20, 0, 0) ∷ (9, 1, 20, 0, 0) ∷ (0, 0, 20, 0, 0) ∷ (1, 4, 20, 0, 0) ∷ (2, 0, 20, 0, 0) ∷ []), refl) ∷
-    (writes as-left event ((386, 0, eventWritten) ∷ (400, 0, eventWritten) ∷ (385, 19, []) ∷ (0, 19, []) ∷ []), refl) ∷ (
+    -- nine lines, two of them text: the length with the ends that are asked for is what 19 counts
+    (
+      writes as-left event
+          ((cr-lf, 395, 0, withLF eventWritten) ∷ (cr-lf, 400, 0, withLF eventWritten) ∷ (cr-lf, 394, 19, []) ∷ (cr-lf, 386, 19, []) ∷ (cr-lf, 0, 19, []) ∷
+          (cr-alone, 386, 0, eventWritten) ∷ (cr-alone, 400, 0, eventWritten) ∷ (cr-alone, 385, 19, []) ∷ (cr-alone, 0, 19, []) ∷ []),
+      refl,
+    ) ∷ (
       stores event
           ((starts, 0, 12) ∷ (starts, 1, 7) ∷ (starts, 2, 0) ∷ (points, 0, 200) ∷ (points, 1, 0) ∷ (ranks, 0, 3) ∷ (ranks, 1, 1) ∷ (ranks, 2, 0) ∷
           (kept, 0, code "m") ∷ (kept, 1, code "G") ∷ (kept, 5, code "R") ∷ (kept, 69, code "2") ∷ (kept, 70, 32) ∷ (kept, 139, 32) ∷ (kept, 140, 0) ∷
@@ -51,7 +57,7 @@ watchedRows =
     (refuses (two " 0.0" "   2 w  " " 0.0" "   1 b  ") 12 2 1, refl) ∷
     (stores (two " 1.0" "   2 w +" " 0.0" "   1 b -") ((results, 0, code "+") ∷ (results, 20, code "-") ∷ []), refl) ∷ (
       writes as-left (two " 1.0" "   2 w +" " 0.0" "   1 b -")
-          ((300, 0, cup ++ (line "142 1" ++ (line "162  W 1.0    D 0.5    L 0.0    A 0.0    P 1.0    X 0.5" ++ (person "   1" " 1.0" "   1" ((92, "   2 w +") ∷ []) ++ person "   2" " 0.0" "   2" ((92, "   1 b -") ∷ []))))) ∷ []),
+          ((cr-alone, 300, 0, cup ++ (line "142 1" ++ (line "162  W 1.0    D 0.5    L 0.0    A 0.0    P 1.0    X 0.5" ++ (person "   1" " 1.0" "   1" ((92, "   2 w +") ∷ []) ++ person "   2" " 0.0" "   2" ((92, "   1 b -") ∷ []))))) ∷ []),
       refl,
     ) ∷
     (refuses (cup ++ (person "   1" " 1.0" "   1" ((92, "   2 w 1") ∷ []) ++ (person "   2" " 0.0" "   2" ((92, "   1 b 0") ∷ []) ++ person "   3" " 0.0" "   3" ((92, "   1 b 0") ∷ [])))) 13 4 1, refl) ∷ []

@@ -10,7 +10,7 @@ use Rattle.types.specs.declared.Answer.{Answer}
 use Rattle.types.specs.declared.Written.{Written}
 use Rattle.types.specs.declared.Score.{Score}
 use Rattle.types.specs.declared.Place.{Place}
-use Rattle.law.specs.Lines.{End, cr}
+use Rattle.law.specs.Lines.{End, cr, crlf}
 use Rattle.law.specs.Tournament.{Tournament}
 use Rattle.law.specs.Spelling.{SpellsFile}
 use Rattle.law.specs.Tables.{Tables, Lent, enough, enoughLent, contentOf, linesContent, zeros, HoldLent, answerOf}
@@ -69,22 +69,23 @@ denialOf no-place = refusal 20 0 0
 abbrev pub NoReading : Answer → Tables → Type 0
 NoReading answer tables = (file : List ℕ) (t : Tournament) → Reading answer tables file t → ⊥
 
--- "Each ends with CR alone."
-abbrev pub writerEnd : End
-writerEnd = cr
+-- how the lines end, by whether CR alone is asked for: "The writer's default becomes CR LF"; who relied on CR alone "must now ask for that"
+abbrev pub endOf : Bool → End
+endOf false = crlf
+endOf true = cr
 
 -- 19: the bytes of a reading's tournament do not fit in the room
-pub record OutShort (answer : Answer) (tables : Tables) (room : ℕ) : Type 0 where
+pub record OutShort (end : End) (answer : Answer) (tables : Tables) (room : ℕ) : Type 0 where
   pub file : List ℕ
   pub t : Tournament
   pub reading : Reading answer tables file t
-  pub short : room < length (written writerEnd t)
+  pub short : room < length (written end t)
 
-abbrev pub WriterDenies : Answer → Tables → ℕ → Denial → Type 0
-WriterDenies answer tables room tables-short = enough tables ≡ false
-WriterDenies answer tables room no-reading = NoReading answer tables
-WriterDenies answer tables room out-short = OutShort answer tables room
-WriterDenies answer tables room no-place = ⊥
+abbrev pub WriterDenies : End → Answer → Tables → ℕ → Denial → Type 0
+WriterDenies end answer tables room tables-short = enough tables ≡ false
+WriterDenies end answer tables room no-reading = NoReading answer tables
+WriterDenies end answer tables room out-short = OutShort end answer tables room
+WriterDenies end answer tables room no-place = ⊥
 
 abbrev pub writerDenials : List Denial
 writerDenials = tables-short ∷ no-reading ∷ out-short ∷ []
@@ -93,24 +94,24 @@ unfoldable pub writtenAnswer : Refusal → ℕ → Written
 writtenAnswer x n = record { number = x .number; line = record { 0 = x .line }; round = x .round; length = n }
 
 -- "The writer tests 1, 18, 19 and changes no byte if it refuses."
-pub record WriteRefused (answer : Answer) (tables : Tables) (before : List ℕ) (r : Written) (after : List ℕ) : Type 0 where
+pub record WriteRefused (end : End) (answer : Answer) (tables : Tables) (before : List ℕ) (r : Written) (after : List ℕ) : Type 0 where
   pub denial : Denial
-  pub first : FirstIn (WriterDenies answer tables (length before)) writerDenials denial
+  pub first : FirstIn (WriterDenies end answer tables (length before)) writerDenials denial
   pub says : r ≡ writtenAnswer (denialOf denial) 0
   pub untouched : after ≡ before
 
 -- "The bytes after the writer's last one stay as they were. The answer gives the length."
-pub record WriteDone (answer : Answer) (tables : Tables) (before : List ℕ) (r : Written) (after : List ℕ) : Type 0 where
-  pub no-denial : NoneOf (WriterDenies answer tables (length before)) writerDenials
+pub record WriteDone (end : End) (answer : Answer) (tables : Tables) (before : List ℕ) (r : Written) (after : List ℕ) : Type 0 where
+  pub no-denial : NoneOf (WriterDenies end answer tables (length before)) writerDenials
   pub file : List ℕ
   pub t : Tournament
   pub reading : Reading answer tables file t
-  pub says : r ≡ writtenAnswer noRefusal (length (written writerEnd t))
-  pub bytes : Holds 0 (length (written writerEnd t)) (λ i. getD (written writerEnd t) i 0) before after
+  pub says : r ≡ writtenAnswer noRefusal (length (written end t))
+  pub bytes : Holds 0 (length (written end t)) (λ i. getD (written end t) i 0) before after
 
-pub data Writes (answer : Answer) (tables : Tables) (before : List ℕ) (r : Written) (after : List ℕ) : Type 0 where
-  write-refused : WriteRefused answer tables before r after → Writes answer tables before r after
-  write-done : WriteDone answer tables before r after → Writes answer tables before r after
+pub data Writes (end : End) (answer : Answer) (tables : Tables) (before : List ℕ) (r : Written) (after : List ℕ) : Type 0 where
+  write-refused : WriteRefused end answer tables before r after → Writes end answer tables before r after
+  write-done : WriteDone end answer tables before r after → Writes end answer tables before r after
 
 -- ---- the question. 20: "no such place or round"; "a place in the table and a round from 1 to R"
 pub record NoPlace (answer : Answer) (tables : Tables) (place round : ℕ) : Type 0 where

@@ -8,7 +8,7 @@ use lib.Dec.{eqb}
 use lib.ListN.{replicate, take}
 use Rattle.kit.specs.Lists.{first, flat}
 use Rattle.types.specs.declared.Acceleration.{Acceleration}
-use Rattle.law.specs.Lines.{End, endBytes}
+use Rattle.law.specs.Lines.{End, cr, crlf, endBytes}
 use Rattle.law.specs.Columns.{Field, blank, width, column, codeField}
 use Rattle.law.specs.Heads.{roundsCode, roundsField, colourCode, colourColumn}
 use Rattle.law.specs.Scoring.{Scoring, stated, scoringCode, slotFields}
@@ -103,6 +103,11 @@ writtenLines t =
 
 unfoldable pub written : End → Tournament → List ℕ
 written end t = flat (λ line. line ++ endBytes (some end)) (writtenLines t)
+
+-- "The longest file that the writer can produce is 58,000 + 2,048 + 1,024 + 69 = 61,141 bytes", with CR alone; with CR LF "the longest output is then 61,887 bytes"
+abbrev pub longest : End → ℕ
+longest cr = 61141
+longest crlf = 61887
 
 -- ---- the question: "the sum earned in earlier rounds and the acceleration for that round, 0 if no record covers it"
 unfoldable pub earnedBefore : Tournament → ℕ → ℕ → ℕ

@@ -12,11 +12,13 @@ ghost use Rattle.law.specs.Players.{pointsField};
 ghost use Rattle.law.specs.Writing.{blanks, digit as digitOf, filled, pointsText};
 ghost use Rattle.puts.specs.Puts.{Puts, run};
 ghost use Rattle.puts.specs.Numbers.{rest, leading};
-ghost use Rattle.puts.specs.Ends.{endText, endWide};
+ghost use Rattle.puts.specs.Ends.{endText, endWide, keptText, relined};
 use types::CR;
+use types::LF;
 
 // What ends a line.
 pub enum Terminator {
+    CrLf,
     Cr,
 }
 
@@ -66,14 +68,22 @@ pub fn put_code(out: &mut [u8], at: usize, a: u8, b: u8, c: u8) -> usize
     at + 3
 }
 
+// Two bytes.
+fn put_pair(out: &mut [u8], at: usize, a: u8, b: u8) -> usize
+    requires { ⌜ at + 2 ≤ length (now out) ⌝ }
+    ensures { λ r. ⌜ Puts (a ∷ b ∷ []) 2 at (now (out .entry)) (now (out .exit)) r ⌝ }
+{
+    out[at] = a;
+    out[at + 1] = b;
+    at + 2
+}
+
 // A blank and a byte after it; `fields::column` reads one.
 pub fn put_letter(out: &mut [u8], at: usize, c: u8) -> usize
     requires { ⌜ at + 2 ≤ length (now out) ⌝ }
     ensures { λ r. ⌜ Puts (blank ∷ c ∷ []) 2 at (now (out .entry)) (now (out .exit)) r ⌝ }
 {
-    out[at] = b' ';
-    out[at + 1] = c;
-    at + 2
+    put_pair(out, at, b' ', c)
 }
 
 // What stands before the last digit of a number, where n is the number without that digit: its digits, and one byte in the columns that they leave.
@@ -138,10 +148,35 @@ pub fn put_end(out: &mut [u8], at: usize, end: Terminator) -> usize
     requires { ⌜ at + endWide end ≤ length (now out) ⌝ }
     ensures { λ r. ⌜ Puts (endText end) (endWide end) at (now (out .entry)) (now (out .exit)) r ⌝ }
 {
-    match end {
-        Terminator::Cr => {
-            out[at] = CR;
-            at + 1
-        }
+    if let Terminator::CrLf = end {
+        return put_pair(out, at, CR, LF);
     }
+    out[at] = CR;
+    at + 1
+}
+
+// A byte of the kept text, whose table has a CR after each line: a terminator where it is CR.
+fn put_kept(out: &mut [u8], at: usize, c: u8, end: Terminator) -> usize
+    requires { ⌜ at + length (keptText end c) ≤ length (now out) ⌝ }
+    ensures { λ r. ⌜ Puts (keptText end c) (length (keptText end c)) at (now (out .entry)) (now (out .exit)) r ⌝ }
+{
+    if c == CR {
+        return put_end(out, at, end);
+    }
+    out[at] = c;
+    at + 1
+}
+
+// The first n bytes of the kept text, each line with a terminator.
+pub fn put_text(out: &mut [u8], at: usize, text: &[u8], n: usize, end: Terminator) -> usize
+    requires { ⌜ (n ≤ length (now text)) × (at + length (relined end (take n (now text))) ≤ length (now out)) ⌝ }
+    ensures { λ r. ⌜ Puts (relined end (take n (now (text .entry)))) (length (relined end (take n (now (text .entry))))) at (now (out .entry)) (now (out .exit)) r ⌝ }
+{
+    let mut next = at;
+    let mut i = 0;
+    while i < n {
+        next = put_kept(out, next, text[i], end);
+        i += 1;
+    }
+    next
 }

@@ -19,7 +19,8 @@ use Rattle.law.specs.Lawful.{Lawful}
 use Rattle.law.specs.Tables.{Tables, cellOf, enough}
 use Rattle.law.specs.Refusals.{noRefusal}
 use Rattle.law.specs.Writing.{written, earnedBefore, pointsOr0, accelerationFor}
-use Rattle.law.specs.Calls.{Reading, denialOf, tables-short, no-reading, out-short, no-place, NoReading, OutShort, NoPlace, writerEnd, writtenAnswer, Writes, write-refused, write-done, scoreAnswer, Asks, ask-refused, ask-done}
+use Rattle.law.specs.Lines.{End, cr}
+use Rattle.law.specs.Calls.{Reading, denialOf, tables-short, no-reading, out-short, no-place, NoReading, OutShort, NoPlace, writtenAnswer, Writes, write-refused, write-done, scoreAnswer, Asks, ask-refused, ask-done}
 use Rattle.written.proofs.Readings.{has-reading, one-reading}
 use Rattle.join.specs.Check.{worthBy, sumAt, entryCell}
 use Rattle.join.proofs.Firsts.{sum-at}
@@ -31,8 +32,8 @@ use Rattle.readings.proofs.Whole.{good-has, no-good}
 
 module _ (a : Answer) (t : Tables) where
   -- ---- 1
-  pub write-short : enough t ≡ false → (out : List ℕ) → Writes a t out (writtenAnswer (denialOf tables-short) 0) out
-  write-short e out =
+  pub write-short : (end : End) → enough t ≡ false → (out : List ℕ) → Writes end a t out (writtenAnswer (denialOf tables-short) 0) out
+  write-short end e out =
       write-refused
       (record {
         denial = tables-short;
@@ -51,8 +52,8 @@ module _ (a : Answer) (t : Tables) where
 
     -- ---- 18
     module _ (bad : GoodReading a t → ⊥) where
-      pub write-unread : (out : List ℕ) → Writes a t out (writtenAnswer (denialOf no-reading) 0) out
-      write-unread out =
+      pub write-unread : (end : End) (out : List ℕ) → Writes end a t out (writtenAnswer (denialOf no-reading) 0) out
+      write-unread end out =
           write-refused
           (record {
             denial = no-reading;
@@ -78,19 +79,19 @@ module _ (a : Answer) (t : Tables) where
       lawful : Lawful u
       lawful = good-has a t long g .0
 
-      reading : Reading a t (written writerEnd u) u
+      reading : Reading a t (written cr u) u
       reading = has-reading a t u lawful (good-has a t long g .1)
 
       not-unread : NoReading a t → ⊥
-      not-unread n = n (written writerEnd u) u reading
+      not-unread n = n (written cr u) u reading
 
       -- every reading is of that tournament
       same-as : {file : List ℕ} {s : Tournament} → Reading a t file s → s ≡ u
-      same-as {file} {s} r = one-reading a t file (written writerEnd u) s u r reading
+      same-as {file} {s} r = one-reading a t file (written cr u) s u r reading
 
       -- ---- 19
-      pub write-room : (out : List ℕ) → length out < length (written writerEnd u) → Writes a t out (writtenAnswer (denialOf out-short) 0) out
-      write-room out l =
+      pub write-room : (end : End) (out : List ℕ) → length out < length (written end u) → Writes end a t out (writtenAnswer (denialOf out-short) 0) out
+      write-room end out l =
           write-refused
           (record {
             denial = out-short;
@@ -100,27 +101,27 @@ module _ (a : Answer) (t : Tables) where
                   after = [];
                   stands = refl;
                   none-before = (not-short, (not-unread, tt));
-                  holds = record { file = written writerEnd u; t = u; reading = reading; short = l };
+                  holds = record { file = written cr u; t = u; reading = reading; short = l };
                 };
             says = refl;
             untouched = refl;
           })
 
-      pub write-whole : (out out′ : List ℕ) → length (written writerEnd u) ≤ length out → Holds 0 (length (written writerEnd u)) (λ i. getD (written writerEnd u) i 0) out out′
-          → Writes a t out (writtenAnswer noRefusal (length (written writerEnd u))) out′
-      write-whole out out′ l h =
+      pub write-whole : (end : End) (out out′ : List ℕ) → length (written end u) ≤ length out → Holds 0 (length (written end u)) (λ i. getD (written end u) i 0) out out′
+          → Writes end a t out (writtenAnswer noRefusal (length (written end u))) out′
+      write-whole end out out′ l h =
           write-done
           (record {
             no-denial = (not-short, (not-unread, (not-room, tt)));
-            file = written writerEnd u;
+            file = written cr u;
             t = u;
             reading = reading;
             says = refl;
             bytes = h;
           })
         where
-          not-room : OutShort a t (length out) → ⊥
-          not-room s = let k = subst (λ (v : Tournament). length out < length (written writerEnd v)) (same-as (s .reading)) (s .short) in omega arith
+          not-room : OutShort end a t (length out) → ⊥
+          not-room s = let k = subst (λ (v : Tournament). length out < length (written end v)) (same-as (s .reading)) (s .short) in omega arith
 
       -- ---- 20
       module _ (place : Place) (round : ℕ) where
@@ -145,7 +146,7 @@ module _ (a : Answer) (t : Tables) where
                     none-before = (not-short, (not-unread, tt));
                     holds =
                         record {
-                          file = written writerEnd u;
+                          file = written cr u;
                           t = u;
                           reading = reading;
                           outside = λ w. n (subst (λ (m : ℕ). place .0 < m) players-are (w .0), w .1, subst (λ (m : ℕ). round ≤ m) rounds-are (w .2));
@@ -189,7 +190,7 @@ module _ (a : Answer) (t : Tables) where
               ask-done
               (record {
                 no-denial = (not-short, (not-unread, (not-outside, tt)));
-                file = written writerEnd u;
+                file = written cr u;
                 t = u;
                 reading = reading;
                 says = ap₂ (scoreAnswer noRefusal) earned-is added-is;

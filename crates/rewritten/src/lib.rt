@@ -2,6 +2,7 @@
 // output.
 ghost use Rattle.io.specs.Counts.{Counts};
 ghost use Rattle.listed.specs.Printed.{Says};
+ghost use Rattle.law.specs.Calls.{endOf};
 ghost use Rattle.rewritten.specs.Rewrites.{Rewrites};
 use libc::STDERR_FILENO;
 use libc::STDOUT_FILENO;
@@ -16,8 +17,8 @@ use types::MOST_ACCELERATIONS;
 use types::MOST_PLAYERS;
 use types::MOST_TEXT;
 
-// The longest file that the writer can produce.
-pub const MOST_WRITTEN: usize = 61141;
+// The longest file that the writer can produce, with CR LF.
+pub const MOST_WRITTEN: usize = 61887;
 
 // What the reading answered, and how many bytes were written: none where the file is refused.
 pub struct Rewritten {
@@ -25,10 +26,11 @@ pub struct Rewritten {
     pub length: usize,
 }
 
-// The bytes of a file in the writer's spelling, from the first byte of `out` on. The answer of a refusal is no reading, so that nothing is written of it.
-pub fn rewrite_file(file: &[u8], out: &mut [u8; MOST_WRITTEN]) -> Rewritten
+// The bytes of a file in the writer's spelling, with CR LF or with CR alone, from the first byte of `out` on. The answer of a refusal is no reading, so that
+// nothing is written of it.
+pub fn rewrite_file(file: &[u8], cr_alone: bool, out: &mut [u8; MOST_WRITTEN]) -> Rewritten
     ensures { λ r. ⌜ Counts (r .length) (now (out .exit)) ⌝ }
-    ensures { λ r. ⌜ Rewrites (now (file .entry)) (now (out .entry)) r (now (out .exit)) ⌝ }
+    ensures { λ r. ⌜ Rewrites (endOf «cr_alone») (now (file .entry)) (now (out .entry)) r (now (out .exit)) ⌝ }
 {
     let mut starts = [0u32; MOST_PLAYERS];
     let mut points = [0u32; MOST_PLAYERS];
@@ -66,6 +68,7 @@ pub fn rewrite_file(file: &[u8], out: &mut [u8; MOST_WRITTEN]) -> Rewritten
         &text,
         records,
         MOST_ACCELERATIONS,
+        cr_alone,
         out,
     );
     Rewritten {
@@ -74,12 +77,12 @@ pub fn rewrite_file(file: &[u8], out: &mut [u8; MOST_WRITTEN]) -> Rewritten
     }
 }
 
-// A file in the writer's spelling, to standard output. A refusal's line goes to standard error.
-pub fn print_rewritten(file: &[u8]) -> Printed
+// A file in the writer's spelling, with CR LF or with CR alone, to standard output. A refusal's line goes to standard error.
+pub fn print_rewritten(file: &[u8], cr_alone: bool) -> Printed
     ensures { λ r. ⌜ Says r (now (file .entry)) ⌝ }
 {
     let mut out = [0u8; MOST_WRITTEN];
-    let done = rewrite_file(file, &mut out);
+    let done = rewrite_file(file, cr_alone, &mut out);
     let answer = done.answer;
     let n = done.length;
     if answer.number == 0 {
@@ -95,10 +98,10 @@ pub fn print_rewritten(file: &[u8]) -> Printed
 }
 
 // The same, of what a descriptor gives. Where it cannot be read, nothing is written.
-pub fn print_input(fd: i32) -> Printed {
+pub fn print_input(fd: i32, cr_alone: bool) -> Printed {
     let mut file = [0u8; MOST_READ];
     let Input::Bytes(n) = listed::read_input(fd, &mut file) else {
         return Printed::Unread;
     };
-    print_rewritten(&file[..n])
+    print_rewritten(&file[..n], cr_alone)
 }

@@ -12,13 +12,10 @@ use Rattle.kit.specs.Lists.{same, isOneOf}
 use Rattle.kit.proofs.Bools.{clash}
 use Rattle.law.specs.Columns.{blank, part, codeField}
 use Rattle.law.specs.Text.{textCodes}
-use Rattle.law.specs.Heads.{roundsCode, colourCode}
-use Rattle.law.specs.Scoring.{scoringCode}
-use Rattle.law.specs.Accelerations.{accelerationCode}
-use Rattle.law.specs.Players.{playerCode}
-use Rattle.law.specs.Items.{Kind, passed-over, kept-text, 142-record, 152-record, 162-record, 250-record, 001-record, unlisted, isPassed, kindOf}
+use Rattle.law.specs.Items.{kept-text, kindOf}
+use Rattle.law.proofs.Seats.{text-listed}
 use Rattle.fields.proofs.Columns.{cells-three}
-use Rattle.records.proofs.Codes.{text-last, kindBy, kind-by}
+use Rattle.records.proofs.Codes.{text-last}
 use Rattle.join.specs.Store.{codePlace}
 use Rattle.steps.specs.Counts.{placeOfCode, placeIn0, placeIn1, placeIn2}
 
@@ -32,33 +29,6 @@ place-in a i (c ∷ l) e = go (same a c) e (place-in a (i + 1) l)
     go true e ih = omega arith
     go false e ih = let h = ih e in omega (arith, h)
 
--- a line of kept text has one of the sixteen codes
-abbrev pub isText : Kind → Bool
-isText passed-over = false
-isText kept-text = true
-isText 142-record = false
-isText 152-record = false
-isText 162-record = false
-isText 250-record = false
-isText 001-record = false
-isText unlisted = false
-
-pub is-text : (row : List ℕ) → kindOf row ≡ kept-text → isOneOf (part codeField row) textCodes ≡ true
-is-text row e =
-    let a : List ℕ = part codeField row in
-    go (isPassed row) (isOneOf a textCodes) (same a roundsCode) (same a colourCode) (same a scoringCode) (same a accelerationCode) (same a playerCode)
-    (sym (kind-by row _ _ _ _ _ _ _ refl refl refl refl refl refl refl) ∙ e)
-  where
-    go : (passed text rounds colour scoring acceleration player : Bool) → kindBy passed text rounds colour scoring acceleration player ≡ kept-text → text ≡ true
-    go true t r c s a p e = clash (ap isText e)
-    go false true r c s a p e = refl
-    go false false true c s a p e = clash (ap isText e)
-    go false false false true s a p e = clash (ap isText e)
-    go false false false false true a p e = clash (ap isText e)
-    go false false false false false true p e = clash (ap isText e)
-    go false false false false false false true e = clash (ap isText e)
-    go false false false false false false false e = clash (ap isText e)
-
 module _ (row : List ℕ) (e : kindOf row ≡ kept-text) (a b : ℕ) (p : a ≡ getD row 0 blank) (q : b ≡ getD row 1 blank) where
   abbrev third : ℕ
   third = getD row 2 blank
@@ -71,12 +41,12 @@ module _ (row : List ℕ) (e : kindOf row ≡ kept-text) (a b : ℕ) (p : a ≡ 
     where
       go : Dec (third ≡ code "2") → third ≡ code "2"
       go (yes d) = d
-      go (no d) = clash (sym (text-last a b third d) ∙ ap (λ (x : List ℕ). isOneOf x textCodes) code-is ∙ is-text row e)
+      go (no d) = clash (sym (text-last a b third d) ∙ ap (λ (x : List ℕ). isOneOf x textCodes) code-is ∙ text-listed row e)
 
   pub code-place : (placeOfCode a b ≡ codePlace (part codeField row) 0 textCodes) × (placeOfCode a b < 16)
   code-place =
       let u : placeOfCode a b ≡ codePlace (part codeField row) 0 textCodes = ap (λ (z : ℕ). codePlace (a ∷ b ∷ z ∷ []) 0 textCodes) (sym last-is) ∙ ap (λ (x : List ℕ). codePlace x 0 textCodes) code-is in
-      (u, subst (λ (k : ℕ). k < 16) (sym u) (place-in (part codeField row) 0 textCodes (is-text row e)))
+      (u, subst (λ (k : ℕ). k < 16) (sym u) (place-in (part codeField row) 0 textCodes (text-listed row e)))
 
 -- ---- second bytes of no code, and first ones
 pub other-in-0 : (b : ℕ) → (b ≡ code "1" → ⊥) → (b ≡ code "2" → ⊥) → (b ≡ code "3" → ⊥) → (b ≡ code "4" → ⊥) → (b ≡ code "5" → ⊥) → (b ≡ code "6" → ⊥) → (b ≡ code "7" → ⊥) → (b ≡ code "9" → ⊥) → 16 ≡ placeIn0 b

@@ -20,6 +20,7 @@ use Rattle.law.specs.Text.{textCodes, isRepeated}
 use Rattle.law.specs.Items as law
 use Rattle.law.specs.Lawful.{KeptLine}
 use Rattle.law.proofs.RecordsRead.{textOf, text-line}
+use Rattle.law.proofs.Seats.{isText as isTextKind, text-is, text-listed}
 use Rattle.fields.specs.Said.{Said, says, refuses, orBadField}
 use Rattle.records.specs.declared.Kind.{Kind}
 use Rattle.records.specs.declared.Kind.the-variants as kind
@@ -28,22 +29,11 @@ use Rattle.records.proofs.Told.{kindSaid, said-is}
 use Rattle.join.specs.Store.{codePlace}
 use Rattle.join.proofs.Codes.{seenOf, repeated-is, seen-more}
 use Rattle.steps.proofs.Answers.{front-of, no-text}
-use Rattle.steps.proofs.Places.{is-text, isText as isTextKind}
 use Rattle.texts.specs.Kept.{Told}
 use Rattle.texts.specs.Stood.{isText, StandsAfter}
 
 pub told-no : {P : Type 0} → (P → ⊥) → Told P false
 told-no h = record { sound = clash; complete = λ p. absurd (h p) }
-
-text-kind : (k : law.Kind) → isTextKind k ≡ true → k ≡ law.kept-text
-text-kind law.passed-over e = clash e
-text-kind law.kept-text e = refl
-text-kind law.142-record e = clash e
-text-kind law.152-record e = clash e
-text-kind law.162-record e = clash e
-text-kind law.250-record e = clash e
-text-kind law.001-record e = clash e
-text-kind law.unlisted e = clash e
 
 text-said : (k : Kind) → isText k ≡ isTextKind (kindSaid (kindSays k))
 text-said kind.PassedOver = refl
@@ -70,7 +60,7 @@ module _ (line : List ℕ) where
   not-listed r k e f h = told-no (λ l. clash (sym (not-true r h) ∙ e ∙ same-text k (law.kindOf line) f ∙ ap isTextKind (l .listed)))
 
   pub listed : (r : Bool) (k : Kind) → r ≡ isText k → kindSays k ≡ orNotListed (law.kindOf line) → not r ≡ false → law.kindOf line ≡ law.kept-text
-  listed r k e f h = text-kind (law.kindOf line) (sym (e ∙ same-text k (law.kindOf line) f) ∙ not-false r h)
+  listed r k e f h = text-is (law.kindOf line) (sym (e ∙ same-text k (law.kindOf line) f) ∙ not-false r h)
 
   pub not-text : orBadField (to length (textOf line)) ≡ refuses 7 → Told (KeptLine line) false
   not-text e = told-no (λ k. no-some (sym (no-text (textOf line) e) ∙ text-line .complete line line (k .itself)))
@@ -100,7 +90,7 @@ module _ (before : List (List ℕ)) (line : List ℕ) (seen : List Bool) (e : se
   -- p is the place of its code
   module _ (kept : KeptLine line) (p : ℕ) (q : p ≡ codePlace (part codeField line) 0 textCodes) where
     again : not (eqb p 9) && getD seen p false ≡ isRepeated before line
-    again = ap₂ (λ (k : ℕ) (v : List Bool). not (eqb k 9) && getD v k false) q e ∙ repeated-is line (is-text line (kept .listed)) before
+    again = ap₂ (λ (k : ℕ) (v : List Bool). not (eqb k 9) && getD v k false) q e ∙ repeated-is line (text-listed line (kept .listed)) before
 
     pub stood-again : not (eqb p 9) && getD seen p false ≡ true → StandsAfter before line (record { good = false; seen = seen })
     stood-again h = record { told = told-no (λ k. clash (sym (k .1) ∙ sym again ∙ h)); seen = clash }
@@ -109,5 +99,5 @@ module _ (before : List (List ℕ)) (line : List ℕ) (seen : List Bool) (e : se
     stands h =
         record {
           told = record { sound = λ _. (kept, sym again ∙ h); complete = λ _. refl };
-          seen = λ _. ap₂ (λ (v : List Bool) (k : ℕ). set v k true) e q ∙ sym (seen-more line (is-text line (kept .listed)) before);
+          seen = λ _. ap₂ (λ (v : List Bool) (k : ℕ). set v k true) e q ∙ sym (seen-more line (text-listed line (kept .listed)) before);
         }

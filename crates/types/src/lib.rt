@@ -95,6 +95,11 @@ pub const CR: u8 = 13;
 
 pub const LF: u8 = 10;
 
+// How the writer ends the lines, as a call says it.
+pub const CR_LF: bool = false;
+
+pub const CR_ALONE: bool = true;
+
 // No acceleration record.
 pub const NO_ACCELERATION: Acceleration = Acceleration {
     points: 0,

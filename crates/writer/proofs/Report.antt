@@ -17,13 +17,13 @@ use Rattle.readings.specs.Good.{GoodReading}
 use Rattle.readings.specs.Held.{held}
 use Rattle.readings.proofs.HeldPlayers.{players-long}
 use Rattle.readings.proofs.Whole.{good-has}
-use Rattle.puts.specs.Ends.{asEnd, endWide, endedBy}
+use Rattle.puts.specs.Ends.{asEnd, endWide, endedBy, relined}
 use Rattle.puts.specs.declared.Terminator.{Terminator}
 use Rattle.heads.specs.Lines.{scoringIn, accelerationWide}
 use Rattle.player_lines.specs.Lines.{playerWide}
 use Rattle.player_lines.specs.Rows.{Long, sevenOf, entriesIn, playerIn, playersIn}
-use Rattle.writer.specs.Report.{Fit, colourText, headsText, reportText, reportWide}
-use Rattle.writer.proofs.Written.{written-parts, written-wide, text-ended}
+use Rattle.writer.specs.Report.{Fit, colourText, headsText, reportText, textWide, reportWide}
+use Rattle.writer.proofs.Written.{written-parts, written-wide, text-relined}
 
 pub good-fit : {a : Answer} {t : Tables} → GoodReading a t → Fit a
 good-fit g = record { players = g .answer .players-fit; rounds = g .answer .rounds-fit; accelerations = g .answer .accelerations-fit; text = g .answer .text-fits }
@@ -47,10 +47,10 @@ module _ (a : Answer) (t : Tables) (long : enough t ≡ true) (g : GoodReading a
   abbrev players : List ℕ
   players = flat (endedBy end) (map playerLine (u .players))
 
-  -- the text's table has its lines as they are written
-  text-is : take (a .text) (t .text) ≡ flat (endedBy end) (u .text)
+  -- the text's table has its lines, which are written each with its terminator
+  text-is : relined end (take (a .text) (t .text)) ≡ flat (endedBy end) (u .text)
   unfolding held
-  text-is = g .tables .text .are ∙ text-ended end (g .tables .text .lines)
+  text-is = ap (relined end) (g .tables .text .are) ∙ text-relined end (g .tables .text .lines) (good-has a t long g .0 .text)
 
   players-are : flat (endedBy end) (map playerLine (playersIn (sevenOf t) (a .rounds) (a .players))) ≡ players
   unfolding held playersIn playerIn entriesIn entryCell
@@ -64,8 +64,8 @@ module _ (a : Answer) (t : Tables) (long : enough t ≡ true) (g : GoodReading a
       ∙ written-parts end u
 
   -- its length
-  text-long : length (flat (endedBy end) (u .text)) ≡ a .text
-  text-long = ap length (sym text-is) ∙ length-take-le (a .text) (t .text) (let r = rooms-are t long .text in let f = g .answer .text-fits in omega arith)
+  text-long : length (flat (endedBy end) (u .text)) ≡ textWide a (t .text) end
+  text-long = ap length (sym text-is)
 
   records-many : length (u .accelerations) ≡ a .accelerations
   unfolding held
@@ -75,7 +75,7 @@ module _ (a : Answer) (t : Tables) (long : enough t ≡ true) (g : GoodReading a
   unfolding held
   players-many = players-long (a .rounds) t (a .players)
 
-  pub report-wide : length (written (asEnd end) u) ≡ reportWide a end
+  pub report-wide : length (written (asEnd end) u) ≡ reportWide a (t .text) end
   unfolding held
   report-wide =
       let w = written-wide end u (good-has a t long g .0) in

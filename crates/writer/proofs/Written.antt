@@ -9,17 +9,18 @@ use Rattle.kit.specs.Lists.{flat}
 use Rattle.kit.specs.First.{AllOf}
 use Rattle.kit.proofs.Lists.{flat-append, flat-length}
 use Rattle.kit.proofs.Firsts.{all-of-each}
+use Rattle.law.specs.Lines.{hasNoCR}
 use Rattle.law.specs.Text.{ended}
 use Rattle.law.specs.Accelerations.{isAcceleration}
 use Rattle.law.specs.Tournament.{Player, Tournament}
-use Rattle.law.specs.Lawful.{LawfulPlayer, Lawful}
+use Rattle.law.specs.Lawful.{KeptLine, LawfulPlayer, Lawful}
 use Rattle.law.specs.Writing.{roundsLine, colourLines, scoringLine, accelerationLine, playerLine, writtenLines, written}
 use Rattle.written.proofs.Heads.{scoring-long, acceleration-long}
 use Rattle.written.proofs.PlayerLines.{GoodEntry, player-long}
-use Rattle.written.proofs.Spelled.{entries-good, all-and, of-all}
-use Rattle.puts.specs.Ends.{asEnd, endText, endWide, endedBy}
+use Rattle.written.proofs.Spelled.{entries-good, all-and, of-all, clean-no-CR}
+use Rattle.puts.specs.Ends.{asEnd, endText, endWide, endedBy, relined}
 use Rattle.puts.specs.declared.Terminator.{Terminator}
-use Rattle.puts.specs.declared.Terminator.the-variants as terminator
+use Rattle.puts.proofs.Ends.{relined-lines}
 use Rattle.puts.proofs.Lined.{flat-map}
 use Rattle.heads.specs.Lines.{accelerationWide, scoringWide}
 use Rattle.player_lines.specs.Lines.{playerWide}
@@ -36,9 +37,9 @@ written-parts end t =
     ∙ ap (λ (l : List ℕ). flat (endedBy end) (t .text) ++ (endedBy end (roundsLine (t .rounds)) ++ l)) (flat-append (endedBy end) (colourLines (t .colour)) later)
     ∙ ap (λ (l : List ℕ). flat (endedBy end) (t .text) ++ (endedBy end (roundsLine (t .rounds)) ++ (flat (endedBy end) (colourLines (t .colour)) ++ (endedBy end (scoringLine (t .scoring)) ++ l)))) (flat-append (endedBy end) accelerations players))
 
--- the text table has its lines ended by CR, as they are written
-pub text-ended : (end : Terminator) (lines : List (List ℕ)) → flat ended lines ≡ flat (endedBy end) lines
-text-ended terminator.Cr lines = refl
+-- the text table has its lines ended by CR: with their terminators they are as they are written
+pub text-relined : (end : Terminator) (lines : List (List ℕ)) → AllOf KeptLine lines → relined end (flat ended lines) ≡ flat (endedBy end) lines
+text-relined end lines h = relined-lines end lines (all-of-each KeptLine (λ l. hasNoCR l ≡ true) (λ l k. clean-no-CR l (k .clean)) lines h)
 
 -- ---- how many bytes are written
 six : (a b c d e f : List ℕ) → length (a ++ (b ++ (c ++ (d ++ (e ++ f))))) ≡ length a + (length b + (length c + (length d + (length e + length f))))

@@ -1,4 +1,4 @@
--- The report file that an answer and tables say, part by part, and how wide it is by the counts alone. Means: no part of the statement.
+-- The report file that an answer and tables say, part by part, and how wide it is by the counts and the lines of the text. Means: no part of the statement.
 use mathlib.Core.List.{List, _++_, map}
 use Prim.Native.Nat.{ℕ, _+_, _*_, _≤_}
 use lib.ListN.{length, take}
@@ -7,7 +7,7 @@ use Rattle.types.specs.declared.Answer.{Answer}
 use Rattle.law.specs.Sizes.{mostPlayers, mostRounds, mostAccelerations, mostText}
 use Rattle.law.specs.Tables.{Tables}
 use Rattle.law.specs.Writing.{roundsLine, colourLines, scoringLine, accelerationLine, playerLine}
-use Rattle.puts.specs.Ends.{endWide, endedBy}
+use Rattle.puts.specs.Ends.{endWide, endedBy, relined}
 use Rattle.puts.specs.declared.Terminator.{Terminator}
 use Rattle.heads.specs.Lines.{accelerationWide, scoringIn, scoringWide}
 use Rattle.player_lines.specs.Lines.{playerWide}
@@ -30,14 +30,17 @@ headsText rounds colour values end = endedBy end (roundsLine rounds) ++ (colourT
 abbrev pub headsWide : ℕ → ℕ → Terminator → ℕ
 headsWide rounds colour end = length (roundsLine rounds) + endWide end + (length (colourText colour end) + (scoringWide + endWide end))
 
--- ---- all lines: the text as its table holds it, each line ended by CR
+-- ---- all lines: the text, whose table has a CR after each line, with its terminators
 unfoldable pub reportText : Answer → Tables → Terminator → List ℕ
 reportText a t end =
-    take (a .text) (t .text)
+    relined end (take (a .text) (t .text))
     ++ (headsText (a .rounds) (a .colour) (a .values) end
     ++ (flat (endedBy end) (map accelerationLine (take (a .accelerations) (t .accelerations)))
     ++ flat (endedBy end) (map playerLine (playersIn (sevenOf t) (a .rounds) (a .players)))))
 
-abbrev pub reportWide : Answer → Terminator → ℕ
-reportWide a end =
-    a .text + (headsWide (a .rounds) (a .colour) end + (a .accelerations * (accelerationWide + endWide end) + a .players * (playerWide (a .rounds) + endWide end)))
+abbrev pub textWide : Answer → List ℕ → Terminator → ℕ
+textWide a text end = length (relined end (take (a .text) text))
+
+abbrev pub reportWide : Answer → List ℕ → Terminator → ℕ
+reportWide a text end =
+    textWide a text end + (headsWide (a .rounds) (a .colour) end + (a .accelerations * (accelerationWide + endWide end) + a .players * (playerWide (a .rounds) + endWide end)))

@@ -3,26 +3,24 @@
 ghost use mathlib.Core.Path.{_≡_};
 ghost use mathlib.Core.List.{List};
 ghost use Prim.Native.Nat.{_+_, _*_, _≤_};
-ghost use lib.ListN.{length};
+ghost use lib.ListN.{length, take};
 ghost use Rattle.law.specs.Sizes.{mostLine, mostPlayers, mostRounds, mostText};
 ghost use Rattle.law.specs.Writing.{roundsLine};
 ghost use Rattle.law.specs.Refusals.{refusal, noRefusal};
-ghost use Rattle.law.specs.Calls.{writtenAnswer, Writes};
+ghost use Rattle.law.specs.Calls.{writtenAnswer, endOf, Writes};
 ghost use Rattle.types.specs.declared.Acceleration as lists;
 ghost use Rattle.lawful.specs.Given.{tablesOf, Given};
 ghost use Rattle.puts.specs.Puts.{Puts};
-ghost use Rattle.puts.specs.Ends.{endWide};
+ghost use Rattle.puts.specs.Ends.{asEnd, endWide, keptText, relined};
 ghost use Rattle.player_lines.specs.Rows.{Long, lent};
 ghost use Rattle.writer.specs.Report.{Fit, colourText, headsText, headsWide, reportText, reportWide};
 use puts::Terminator;
 use types::Acceleration;
 use types::Answer;
+use types::CR;
 use types::LineNumber;
 use types::MOST_ACCELERATIONS;
 use types::Written;
-
-// How the lines end.
-const ENDING: Terminator = Terminator::Cr;
 
 // How many bytes the lines have: 142 up to its number, 152, 162, 250, 001 up to the rank, and a round of it.
 const BEFORE_ROUNDS: usize = 4;
@@ -37,13 +35,48 @@ const PLAYER_HEAD: usize = 89;
 
 const PLAYER_ROUND: usize = 10;
 
+// How the lines end: with CR LF, or with CR alone where the caller asks for that.
+fn ending(cr_alone: bool) -> Terminator
+    ensures { λ r. ⌜ asEnd r ≡ endOf «cr_alone» ⌝ }
+{
+    if cr_alone {
+        return Terminator::Cr;
+    }
+    Terminator::CrLf
+}
+
 // How many bytes end a line; `puts::put_end` puts them.
 fn end_wide(end: Terminator) -> usize
     ensures { λ r. ⌜ (r ≡ endWide end) × (r ≤ mostLine) ⌝ }
 {
-    match end {
-        Terminator::Cr => 1,
+    if let Terminator::CrLf = end {
+        return 2;
     }
+    1
+}
+
+// How many bytes a byte of the kept text is written in; `puts::put_text` puts it.
+fn kept_wide(c: u8, end: Terminator) -> u16
+    ensures { λ r. ⌜ (r ≡ length (keptText end c)) × (r ≤ 2) ⌝ }
+{
+    if c == CR {
+        return end_wide(end) as u16;
+    }
+    1
+}
+
+// How many bytes the first n of the kept text are written in. Their number fits in sixteen bits, of which the compiler adds eight at a time.
+fn text_wide(text: &[u8], n: usize, end: Terminator) -> usize
+    requires { ⌜ (n ≤ mostText) × (n ≤ length (now text)) ⌝ }
+    ensures { λ r. ⌜ (r ≡ length (relined end (take n (now (text .entry))))) × (r ≤ mostText + mostText) ⌝ }
+{
+    let mut wide: u16 = 0;
+    let mut i = 0;
+    while i < n {
+        wide += kept_wide(text[i], end);
+        i += 1;
+    }
+    wide as usize
 }
 
 // How many bytes 142 has.
@@ -76,17 +109,18 @@ fn lines_wide(n: u32, wide: usize, end: Terminator) -> usize
 }
 
 // How many bytes a reading is written in.
-fn written_length(answer: Answer, end: Terminator) -> usize
-    requires { ⌜ Fit answer ⌝ }
-    ensures { λ r. ⌜ r ≡ reportWide answer end ⌝ }
+fn written_length(answer: Answer, text: &[u8], end: Terminator) -> usize
+    requires { ⌜ Fit answer × (mostText ≤ length (now text)) ⌝ }
+    ensures { λ r. ⌜ r ≡ reportWide answer (now (text .entry)) end ⌝ }
 {
+    let kept = text_wide(text, answer.text, end);
     let rounds = rounds_wide(answer.rounds) + end_wide(end);
     let colour = colour_wide(answer.colour, end);
     let scoring = SCORING_LINE + end_wide(end);
     let accelerations = lines_wide(answer.accelerations, ACCELERATION_LINE, end);
     let player = PLAYER_HEAD + answer.rounds as usize * PLAYER_ROUND;
     let players = lines_wide(answer.players, player, end);
-    answer.text + (rounds + (colour + scoring)) + (accelerations + players)
+    kept + (rounds + (colour + scoring)) + (accelerations + players)
 }
 
 // 152 with its terminator, if the colour is known.
@@ -137,11 +171,11 @@ fn put_report(
 ) -> usize
     requires { ⌜ Fit answer ⌝ }
     requires { ⌜ Long (lent starts points ranks kept opponents colours results) × (mostText ≤ length (now text)) ⌝ }
-    requires { ⌜ reportWide answer end ≤ length (now out) ⌝ }
-    ensures { λ r. ⌜ Puts (reportText answer (tablesOf (now (starts .entry)) (now (points .entry)) (now (ranks .entry)) (now (kept .entry)) (now (opponents .entry)) (now (colours .entry)) (now (results .entry)) (now (text .entry)) all) end) (reportWide answer end) 0 (now (out .entry)) (now (out .exit)) r ⌝ }
+    requires { ⌜ reportWide answer (now text) end ≤ length (now out) ⌝ }
+    ensures { λ r. ⌜ Puts (reportText answer (tablesOf (now (starts .entry)) (now (points .entry)) (now (ranks .entry)) (now (kept .entry)) (now (opponents .entry)) (now (colours .entry)) (now (results .entry)) (now (text .entry)) all) end) (reportWide answer (now (text .entry)) end) 0 (now (out .entry)) (now (out .exit)) r ⌝ }
 {
     let values = answer.values;
-    let at = puts::put_part(out, 0, text, 0, answer.text);
+    let at = puts::put_text(out, 0, text, answer.text, end);
     let at = put_heads(out, at, answer.rounds, answer.colour, values, end);
     let records = answer.accelerations as usize;
     let at = heads::put_accelerations(out, at, all, records, end);
@@ -184,7 +218,7 @@ fn done(length: usize) -> Written
     }
 }
 
-// A writing: the answer and tables of a reading into the output. all: the first acceleration records, of which so many are lent.
+// A writing: the answer and tables of a reading into the output, each line ended with CR LF, or with CR alone. all: the first acceleration records, of which so many are lent.
 pub fn write_core(
     answer: Answer,
     starts: &[u32],
@@ -197,9 +231,10 @@ pub fn write_core(
     text: &[u8],
     all: [Acceleration; MOST_ACCELERATIONS],
     accelerations: usize,
+    cr_alone: bool,
     out: &mut [u8],
 ) -> Written
-    ensures { λ r. ⌜ ((records : List lists.Acceleration) → Given accelerations all records → Writes answer (tablesOf (now (starts .entry)) (now (points .entry)) (now (ranks .entry)) (now (kept .entry)) (now (opponents .entry)) (now (colours .entry)) (now (results .entry)) (now (text .entry)) records) (now (out .entry)) r (now (out .exit))) ⌝ }
+    ensures { λ r. ⌜ ((records : List lists.Acceleration) → Given accelerations all records → Writes (endOf «cr_alone») answer (tablesOf (now (starts .entry)) (now (points .entry)) (now (ranks .entry)) (now (kept .entry)) (now (opponents .entry)) (now (colours .entry)) (now (results .entry)) (now (text .entry)) records) (now (out .entry)) r (now (out .exit))) ⌝ }
 {
     let long = tables::enough(
         starts.len(),
@@ -229,7 +264,8 @@ pub fn write_core(
     ) {
         return refused(18);
     }
-    if out.len() < written_length(answer, ENDING) {
+    let end = ending(cr_alone);
+    if out.len() < written_length(answer, text, end) {
         return refused(19);
     }
     let length = put_report(
@@ -243,7 +279,7 @@ pub fn write_core(
         results,
         text,
         all,
-        ENDING,
+        end,
         out,
     );
     done(length)

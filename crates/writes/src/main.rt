@@ -1,10 +1,14 @@
 // What the writer and the question do. Rows of standard input make files, as `drafts` says; this program's own rows are
 //
-//     >NAME        the file that was made, in the writer's spelling
-//     &NAME        the same written, and what was written read and written again: the lengths, and whether the bytes are the same
+//     >NAME        the file that was made, in the writer's spelling with CR LF
+//     <NAME        the same with CR alone; each CR is shown as LF
+//     &NAME        the same written, with CR LF and with CR alone, and what was written read and written again: the lengths, how many CRs and LFs there are,
+//                  and whether the bytes are the same
 //     !PART CELL VALUE SHORT ROOM PLACE ROUND NAME
-//                  the file read, that cell of that part changed, and a writing and a question over the reading: SHORT is the table that is lent a cell short,
-//                  ROOM is the output's length, PLACE and ROUND are asked about. Where other text was made, it stands in place of the file's own
+//                  the file read, that cell of that part changed, and a writing with CR LF and a question over the reading: SHORT is the table that is lent a
+//                  cell short, ROOM is the output's length, PLACE and ROUND are asked about. Where other text was made, it stands in place of the file's own
+//     ?PART CELL VALUE SHORT ROOM PLACE ROUND NAME
+//                  the same with CR alone
 //
 // Part 0 changes nothing, and 0 is no table: `changes` has the others.
 ghost use Prim.Native.Nat.{_≤_};
@@ -17,6 +21,8 @@ use libc::STDOUT_FILENO;
 use rewritten::MOST_WRITTEN;
 use types::Acceleration;
 use types::Answer;
+use types::CR_ALONE;
+use types::CR_LF;
 use types::LINES;
 use types::MOST_ACCELERATIONS;
 use types::Place;
@@ -76,6 +82,7 @@ fn print_score(number: u32, points: u32, acceleration: u32) {
 // A writing and a question over parts of the tables.
 fn judge(
     c: Case,
+    cr_alone: bool,
     answer: Answer,
     starts: &[u32],
     points: &[u32],
@@ -110,6 +117,7 @@ fn judge(
         &text[..of_text],
         records,
         lent,
+        cr_alone,
         &mut out[..of_out],
     );
     let score = question::ask_core(
@@ -132,7 +140,7 @@ fn judge(
 }
 
 // A file read, one thing changed, and the reading judged.
-fn run(c: Case, file: &[u8], other: &[u8]) {
+fn run(c: Case, cr_alone: bool, file: &[u8], other: &[u8]) {
     let mut starts = [0u32; changes::PLAYERS];
     let mut points = [0u32; changes::PLAYERS];
     let mut ranks = [0u32; changes::PLAYERS];
@@ -171,6 +179,7 @@ fn run(c: Case, file: &[u8], other: &[u8]) {
     );
     judge(
         c,
+        cr_alone,
         changes::change_answer(read, other, c),
         &starts,
         &points,
@@ -184,36 +193,40 @@ fn run(c: Case, file: &[u8], other: &[u8]) {
     );
 }
 
-fn run_case(row: &[u8], file: &[u8], d: Draft) {
+fn run_case(row: &[u8], file: &[u8], d: Draft, cr_alone: bool) {
     let c = changes::case_of(row);
     let end = drafts::file_end(d, file);
     let last = drafts::text_end(d, file, end);
     drafts::print_rest(row, c.name);
-    run(c, &file[..end], &file[end..last]);
+    run(c, cr_alone, &file[..end], &file[end..last]);
 }
 
-fn show(row: &[u8], file: &[u8], d: Draft) {
+fn show(row: &[u8], file: &[u8], d: Draft, cr_alone: bool) {
     let mut out = [0u8; MOST_WRITTEN];
     let end = drafts::file_end(d, file);
-    let done = rewritten::rewrite_file(&file[..end], &mut out);
+    let done = rewritten::rewrite_file(&file[..end], cr_alone, &mut out);
     let n = done.length;
     drafts::print_rest(row, 1);
     io::write_all(STDOUT_FILENO, b"\n");
-    drafts::print_lines(&out[..n]);
+    if cr_alone {
+        drafts::print_lines(&out[..n]);
+    } else {
+        io::write_all(STDOUT_FILENO, &out[..n]);
+    }
 }
 
 // Written, and what was written read and written again.
-fn write_twice(row: &[u8], file: &[u8], d: Draft) {
+fn print_twice(file: &[u8], cr_alone: bool) {
     let mut out = [0u8; MOST_WRITTEN];
     let mut again = [0u8; MOST_WRITTEN];
-    let end = drafts::file_end(d, file);
-    let first = rewritten::rewrite_file(&file[..end], &mut out);
+    let first = rewritten::rewrite_file(file, cr_alone, &mut out);
     let n = first.length;
-    let second = rewritten::rewrite_file(&out[..n], &mut again);
+    let second = rewritten::rewrite_file(&out[..n], cr_alone, &mut again);
     let m = second.length;
-    drafts::print_rest(row, 1);
     drafts::print_field(b": ", n as u64);
-    drafts::print_field(b" bytes, written again ", m as u64);
+    drafts::print_field(b" bytes, CR ", drafts::count_bytes(&out[..n], b'\r'));
+    drafts::print_field(b", LF ", drafts::count_bytes(&out[..n], b'\n'));
+    drafts::print_field(b", written again ", m as u64);
     if drafts::is_same(&out[..n], &again[..m]) {
         drafts::print_name(b", the same");
     } else {
@@ -221,13 +234,25 @@ fn write_twice(row: &[u8], file: &[u8], d: Draft) {
     }
 }
 
+fn write_twice(row: &[u8], file: &[u8], d: Draft) {
+    let end = drafts::file_end(d, file);
+    drafts::print_rest(row, 1);
+    io::write_all(STDOUT_FILENO, b", CR LF");
+    print_twice(&file[..end], CR_LF);
+    drafts::print_rest(row, 1);
+    io::write_all(STDOUT_FILENO, b", CR alone");
+    print_twice(&file[..end], CR_ALONE);
+}
+
 // What a row does: the draft after it.
 fn take_row(file: &mut [u8; ROOM], d: Draft, row: &[u8]) -> Draft {
     let first = drafts::first_of(row);
     match first {
-        b'>' => show(row, file, d),
+        b'>' => show(row, file, d, CR_LF),
+        b'<' => show(row, file, d, CR_ALONE),
         b'&' => write_twice(row, file, d),
-        b'!' => run_case(row, file, d),
+        b'!' => run_case(row, file, d, CR_LF),
+        b'?' => run_case(row, file, d, CR_ALONE),
         _ => return drafts::put_row(file, d, row),
     }
     d

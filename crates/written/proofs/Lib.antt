@@ -4,4 +4,5 @@ pub mod Heads
 pub mod PlayerLines
 pub mod Spelled
 pub mod Lengths
+pub mod Reached
 pub mod Readings

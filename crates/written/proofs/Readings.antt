@@ -15,13 +15,13 @@ use Rattle.types.specs.declared.Answer.{Answer}
 use Rattle.types.specs.declared.Written.{Written}
 use Rattle.types.specs.declared.Score.{Score}
 use Rattle.types.specs.declared.Place.{Place}
-use Rattle.law.specs.Lines.{cr}
+use Rattle.law.specs.Lines.{End, cr}
 use Rattle.law.specs.Tournament.{Tournament}
 use Rattle.law.specs.Lawful.{Lawful}
 use Rattle.law.specs.Tables.{Tables, Lent, lineCells, enough, enoughLent, linesContent, answerOf}
 use Rattle.law.specs.Refusals.{noRefusal, accepted, Judged}
 use Rattle.law.specs.Writing.{written, earnedBefore, accelerationFor}
-use Rattle.law.specs.Calls.{Reading, Denial, denialOf, NoReading, writerEnd, WriterDenies, writtenAnswer, Writes, write-refused, write-done, QuestionDenies, scoreAnswer, Asks, ask-refused, ask-done}
+use Rattle.law.specs.Calls.{Reading, Denial, denialOf, NoReading, WriterDenies, writtenAnswer, Writes, write-refused, write-done, QuestionDenies, scoreAnswer, Asks, ask-refused, ask-done}
 use Rattle.law.proofs.ReadsOnce.{lent-enough}
 use Rattle.written.proofs.Spelled.{written-spells}
 use Rattle.written.proofs.Lengths.{written-accepted}
@@ -39,7 +39,7 @@ lent-long tables h = both (le-leb lineCells (length blank-lines) (let l = length
 pub has-reading : (answer : Answer) (tables : Tables) (t : Tournament) → Lawful t → Has t answer tables → Reading answer tables (written cr t) t
 unfolding answerOf
 has-reading answer tables t h k =
-    let q = written-accepted t h in
+    let q = written-accepted cr t h in
     let before : Lent = record { tables = tables; lines = blank-lines } in
     let long = lent-long tables (k .long) in
     let n = linesContent (q .0) (q .1) in
@@ -66,17 +66,17 @@ no-reading answer tables = (
 )
 
 -- ---- the writer: one answer and one content of the output, whatever the lengths
-pub writes-once : (answer : Answer) (tables : Tables) (before : List ℕ) (r s : Written) (x y : List ℕ) → Writes answer tables before r x → Writes answer tables before s y → (r ≡ s) × (x ≡ y)
-writes-once answer tables before r s x y (write-refused a) (write-refused b) =
-    let e = first-unique (WriterDenies answer tables (length before)) (a .first) (b .first) in
+pub writes-once : (end : End) (answer : Answer) (tables : Tables) (before : List ℕ) (r s : Written) (x y : List ℕ) → Writes end answer tables before r x → Writes end answer tables before s y → (r ≡ s) × (x ≡ y)
+writes-once end answer tables before r s x y (write-refused a) (write-refused b) =
+    let e = first-unique (WriterDenies end answer tables (length before)) (a .first) (b .first) in
     (a .says ∙ ap (λ (d : Denial). writtenAnswer (denialOf d) 0) e ∙ sym (b .says), a .untouched ∙ sym (b .untouched))
-writes-once answer tables before r s x y (write-refused a) (write-done b) = absurd (none-first (WriterDenies answer tables (length before)) (b .no-denial) (a .first))
-writes-once answer tables before r s x y (write-done a) (write-refused b) = absurd (none-first (WriterDenies answer tables (length before)) (a .no-denial) (b .first))
-writes-once answer tables before r s x y (write-done a) (write-done b) =
+writes-once end answer tables before r s x y (write-refused a) (write-done b) = absurd (none-first (WriterDenies end answer tables (length before)) (b .no-denial) (a .first))
+writes-once end answer tables before r s x y (write-done a) (write-refused b) = absurd (none-first (WriterDenies end answer tables (length before)) (a .no-denial) (b .first))
+writes-once end answer tables before r s x y (write-done a) (write-done b) =
     let e = one-reading answer tables (a .file) (b .file) (a .t) (b .t) (a .reading) (b .reading) in (
-      a .says ∙ ap (λ (t : Tournament). writtenAnswer noRefusal (length (written writerEnd t))) e ∙ sym (b .says),
-      one-content 0 (length (written writerEnd (b .t))) (λ i. getD (written writerEnd (b .t)) i 0) before x y
-          (subst (λ (t : Tournament). Holds 0 (length (written writerEnd t)) (λ i. getD (written writerEnd t) i 0) before x) e (a .bytes)) (b .bytes),
+      a .says ∙ ap (λ (t : Tournament). writtenAnswer noRefusal (length (written end t))) e ∙ sym (b .says),
+      one-content 0 (length (written end (b .t))) (λ i. getD (written end (b .t)) i 0) before x y
+          (subst (λ (t : Tournament). Holds 0 (length (written end t)) (λ i. getD (written end t) i 0) before x) e (a .bytes)) (b .bytes),
     )
 
 -- ---- the question: one answer

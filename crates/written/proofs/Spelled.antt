@@ -115,7 +115,7 @@ unfolding flat
 join-lines e [] = refl
 join-lines e (l ∷ ls) = append-assoc l (endBytes (some e)) (flat (λ line. line ++ endBytes (some e)) ls) ∙ ap (λ (r : List ℕ). l ++ (endBytes (some e) ++ r)) (join-lines e ls)
 
-clean-no-CR : (l : List ℕ) → all allowed l ≡ true → hasNoCR l ≡ true
+pub clean-no-CR : (l : List ℕ) → all allowed l ≡ true → hasNoCR l ≡ true
 clean-no-CR [] h = refl
 clean-no-CR (c ∷ l) h =
     let k = and (allowed c) (all allowed l) h in

@@ -1,6 +1,6 @@
 -- `rewritten::rewrite_file` meets its contract. Assumes nothing.
 use borrow.Author.Needs.{needs}
-use Rattle.rewritten.proofs.Laws.{unmapped, core-rewrites}
+use Rattle.rewritten.proofs.Laws.{unmapped, either-fits, core-rewrites}
 use Rattle.rewritten.proofs.rewrite_file.Statement.{statement}
 use Rattle.rewritten.proofs.rewrite_file.Tie as tie
 
@@ -81,6 +81,7 @@ returns c =
       text = search needs;
       lines = search needs;
     })
+    (either-fits (c .before .before .before .before .before .before .before .before .before .before .before .before .before .before .before .before .before .before .before .before .before .before .before .before .before .before .before .before .before .before .before .before .args .cr-alone) (search needs))
     (c .write-core .ensures)
 
 pub rewrite-file-spec : {M : Type 1} → statement M

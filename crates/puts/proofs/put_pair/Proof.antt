@@ -1,12 +1,12 @@
--- `puts::put_letter` meets its contract. Assumes nothing.
+-- `puts::put_pair` meets its contract. Assumes nothing.
 use mathlib.Core.Path.{refl}
 use Prim.Native.Nat.{_+_}
 use native.Mathlib.Omega.{arith}
 use lib.ListN.{length-set}
 use borrow.Author.Needs.{needs}
 use Rattle.puts.proofs.Puts.{puts-as, puts-byte, puts-store}
-use Rattle.puts.proofs.put_letter.Statement.{statement}
-use Rattle.puts.proofs.put_letter.Tie as tie
+use Rattle.puts.proofs.put_pair.Statement.{statement}
+use Rattle.puts.proofs.put_pair.Tie as tie
 
 slice-write-out : tie.Need-slice-write-out
 slice-write-out c = search needs
@@ -26,8 +26,8 @@ same-length c = simp length-set
 returns : tie.Need-returns
 returns c =
     let a = c .args in
-    puts-as refl refl (omega arith) (puts-store (puts-byte (omega arith)) (a .at + 1) (a .c) refl (omega arith))
+    puts-as refl refl (omega arith) (puts-store (puts-byte (omega arith)) (a .at + 1) (a .b) refl (omega arith))
 
-pub put-letter-spec : {M : Type 1} → statement M
-put-letter-spec =
+pub put-pair-spec : {M : Type 1} → statement M
+put-pair-spec =
     tie.close (tie.spec slice-write-out add-out slice-write-out-2 add-result same-length returns)
