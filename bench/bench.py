@@ -1,7 +1,8 @@
 #!/usr/bin/env python3
 """Measures the Rattle calls beside the plain C ones: bench.py [ratios] [linear] [stack] [--processes N], or bench.py profile CALL ROW.
 
-Without words it prints all tables (as Markdown). `profile read 3` prints the functions of both programs for row 3 of the first table, dearest first.
+Without words it prints all tables (as Markdown). `profile read 3` prints the functions of both programs for row 3 of the first table, dearest first; a CALL
+is read, write (with CR LF), write_cr (with CR alone) or ask.
 bench/README.md says what is needed."""
 import datetime, glob, os, platform, shutil, signal, statistics, subprocess, sys
 
@@ -14,7 +15,8 @@ WORK = os.path.join(ROOT, "target", "bench")
 DRIVER = os.path.join(WORK, "driver")
 PLUGIN = os.path.join(WORK, "count.so")
 ARCHIVE = os.path.join(ROOT, "target", "staticlib", "libface.a")
-CALLS = ("read", "write", "ask")
+# the driver's words for the calls, and those of the tables
+CALLS = {"read": "read", "write": "write", "write_cr": "write, CR alone", "ask": "ask"}
 NATIVE = platform.machine() == "x86_64"
 # what rt itself says to clang
 FLAGS = ["--target=x86_64-unknown-linux-gnu", "-march=x86-64", "-O3", "-ffunction-sections", "-fdata-sections", "-fPIC", "--no-default-config"]
@@ -123,12 +125,17 @@ def counts(arguments):
     made = [sum(count for count, _ in functions) for functions in counter()(arguments)]
     if len(made) not in (2, 2 * len(CALLS)):
         fail(f"{len(made)} calls were counted")
-    return {(call, maker): [made[2 * i + j]] for i, call in enumerate(CALLS[:len(made) // 2]) for j, maker in enumerate(("ours", "plain"))}
+    return {(call, maker): [made[2 * i + j]] for i, call in enumerate(list(CALLS)[:len(made) // 2]) for j, maker in enumerate(("ours", "plain"))}
 
 
 def pinned():
     cpu = max(os.sched_getaffinity(0))
     return ["taskset", "-c", str(cpu)] + ([] if NATIVE else [f"{kit()}/bin/qemu-x86_64", "-cpu", "qemu64"])
+
+
+def driven(word, arguments):
+    """Whole numbers by call and maker, which no other process changes."""
+    return figures(run([*([] if NATIVE else pinned()), DRIVER, word, *arguments]), int)
 
 
 def times(arguments, processes):
@@ -158,14 +165,16 @@ def ratios(processes):
         arguments = kept_pair(f"row{i}", data, lent)
         count = counts(arguments) if counter() else {}
         time = times(arguments, processes)
+        size = driven("bytes", arguments)
         short.append([f"{i}. {name}"] + [cell for call in CALLS for cell in (ratio(count, call), ratio(time, call))])
-        for call in CALLS:
+        for call, words in CALLS.items():
             if (call, "ours") in time:
                 ours, plain = ((f"{count[call, maker][0]:,}" if count else "-", f"{statistics.median(time[call, maker]) / 1e3:,.1f}") for maker in ("ours", "plain"))
-                long.append([f"{i}. {call}", f"{len(data):,}", ours[0], plain[0], ours[1], plain[1]])
+                bytes_moved = f"{size[call, 'ours']:,}" if (call, "ours") in size else "-"
+                long.append([f"{i}. {words}", bytes_moved, ours[0], plain[0], ours[1], plain[1]])
     print(f"Ours / plain C on {datetime.date.today()}, {platform.machine()}; times are medians over {processes} pinned processes.\n")
-    table(["file"] + [f"{call}, {what}" for call in CALLS for what in ("instructions", "time")], short)
-    table(["row, call", "bytes", "instructions, ours", "plain", "microseconds, ours", "plain"], long)
+    table(["file"] + [f"{words}, {what}" for words in CALLS.values() for what in ("instructions", "time")], short)
+    table(["row, call", "bytes read or written", "instructions, ours", "plain", "microseconds, ours", "plain"], long)
 
 
 def linear():
@@ -183,17 +192,16 @@ def linear():
             rows.append(row)
             before = size, count
         print(f"Ours, as the number of {what}s grows: instructions, and how many each further {what} costs.\n")
-        table(["file", "bytes"] + [head for call in CALLS for head in (call, f"a {what} more")], rows)
+        table(["file", "bytes"] + [head for words in CALLS.values() for head in (words, f"a {what} more")], rows)
 
 
 def stack():
     deepest = {}
     for i, (_, data, lent) in enumerate(files.measured(), 1):
-        front = [] if NATIVE else pinned()
-        for key, depth in figures(run([*front, DRIVER, "stack", *kept_pair(f"row{i}", data, lent)]), int).items():
+        for key, depth in driven("stack", kept_pair(f"row{i}", data, lent)).items():
             deepest[key] = max(deepest.get(key, 0), depth)
     print("The deepest stack in bytes, over all rows, with the arguments and the return address of the call.\n")
-    table(["call", "ours", "plain C"], [[call] + [f"{deepest[call, maker]:,}" for maker in ("ours", "plain")] for call in CALLS])
+    table(["call", "ours", "plain C"], [[words] + [f"{deepest[call, maker]:,}" for maker in ("ours", "plain")] for call, words in CALLS.items()])
 
 
 def profile(call, row):
@@ -201,11 +209,12 @@ def profile(call, row):
         fail("no instructions are counted here: bench/README.md says what that needs")
     _, data, lent = files.measured()[int(row) - 1]
     made = counter()(kept_pair(f"row{row}", data, lent))
-    if len(made) <= 2 * CALLS.index(call):
-        fail(f"row {row} is refused: there is no reading to {call}")
+    at = 2 * list(CALLS).index(call)
+    if len(made) <= at:
+        fail(f"row {row} is refused: there is no reading to {'ask' if call == 'ask' else 'write'}")
     for j, maker in enumerate(("ours", "plain")):
-        functions = made[2 * CALLS.index(call) + j]
-        print(f"{call}, {maker}: {sum(count for count, _ in functions):,}")
+        functions = made[at + j]
+        print(f"{CALLS[call]}, {maker}: {sum(count for count, _ in functions):,}")
         print("".join(f"{count:12,}  {function}\n" for count, function in functions if count))
 
 

@@ -1,7 +1,8 @@
-/* Runs the Rattle calls and the plain C ones over one file: driver count|time|stack FILE [LENT].
+/* Runs the Rattle calls and the plain C ones over one file: driver count|time|stack|bytes FILE [LENT].
 
-   Both must give the same answers, tables and bytes before anything is measured. The writer and the question are lent the reading of FILE, or that of LENT
-   with the last player's points wrong, which only their last check sees. Of a refused file without LENT only the reading is measured. */
+   Both must give the same answers, tables and bytes, with either line end, before anything is measured. The writer and the question are lent the reading
+   of FILE, or that of LENT with the last player's points wrong, which only their last check sees. Of a refused file without LENT only the reading is
+   measured. */
 #include "plain.h"
 
 /* The kit has no C headers. */
@@ -29,9 +30,9 @@ typedef struct {
 } tables;
 
 enum { OURS, PLAIN, MAKERS };
-enum { READ, WRITE, ASK, CALLS };
+enum { READ, WRITE, WRITE_CR, ASK, CALLS }; /* the lines that are written end with CR LF, or with CR alone */
 static const char *const maker_names[MAKERS] = {"ours", "plain"};
-static const char *const call_names[CALLS] = {"read", "write", "ask"};
+static const char *const call_names[CALLS] = {"read", "write", "write_cr", "ask"};
 
 static __typeof__(trf_read) *const readers[MAKERS] = {trf_read, plain_read};
 static __typeof__(trf_write) *const writers[MAKERS] = {trf_write, plain_write};
@@ -45,6 +46,7 @@ static trf_answer answers[MAKERS], lent_answer;
 static uint8_t out[MAKERS][TRF_MOST_WRITTEN];
 static trf_written written[MAKERS];
 static trf_score scores[MAKERS];
+static size_t bytes[CALLS]; /* read or written */
 
 static void run_read(int maker)
 {
@@ -54,13 +56,16 @@ static void run_read(int maker)
                                     t->text, TRF_TEXT_CELLS, t->accelerations, TRF_ACCELERATION_CELLS, t->lines, TRF_LINE_CELLS);
 }
 
-static void run_write(int maker)
+static void write_by(int maker, bool cr_alone)
 {
     const tables *t = &lent;
     written[maker] = writers[maker](lent_answer, t->starts, TRF_PLAYER_CELLS, t->points, TRF_PLAYER_CELLS, t->ranks, TRF_PLAYER_CELLS,
                                     t->kept, TRF_KEPT_CELLS, t->opponents, TRF_ENTRY_CELLS, t->colours, TRF_ENTRY_CELLS, t->results, TRF_ENTRY_CELLS,
-                                    t->text, TRF_TEXT_CELLS, t->accelerations, TRF_ACCELERATION_CELLS, out[maker], TRF_MOST_WRITTEN);
+                                    t->text, TRF_TEXT_CELLS, t->accelerations, TRF_ACCELERATION_CELLS, cr_alone, out[maker], TRF_MOST_WRITTEN);
 }
+
+static void run_write(int maker) { write_by(maker, TRF_CR_LF); }
+static void run_write_cr(int maker) { write_by(maker, TRF_CR); }
 
 /* The last player and the last round. */
 static void run_ask(int maker)
@@ -72,7 +77,7 @@ static void run_ask(int maker)
                                   t->text, TRF_TEXT_CELLS, t->accelerations, TRF_ACCELERATION_CELLS, last, lent_answer.rounds);
 }
 
-static void (*const runs[CALLS])(int maker) = {run_read, run_write, run_ask};
+static void (*const runs[CALLS])(int maker) = {run_read, run_write, run_write_cr, run_ask};
 
 /* ---- both say the same ---- */
 
@@ -101,12 +106,30 @@ static int read_both(const char *name)
     if (!from)
         return 0;
     file_bytes = fread(file, 1, sizeof file, from);
+    bytes[READ] = file_bytes;
     memset(read_into, 0xee, sizeof read_into);
     for (int maker = 0; maker < MAKERS; maker++)
         run_read(maker);
     lent = read_into[PLAIN];
     lent_answer = answers[PLAIN];
     return same_answers(&answers[OURS], &answers[PLAIN]) && memcmp(&read_into[OURS], &read_into[PLAIN], sizeof lent) == 0;
+}
+
+/* Whether both writers make the same of what they are lent, with the line end of this call. */
+static int write_both(int call)
+{
+    memset(out, 0xee, sizeof out);
+    for (int maker = 0; maker < MAKERS; maker++)
+        runs[call](maker);
+    bytes[call] = written[PLAIN].length;
+    return same_writing();
+}
+
+static int ask_both(void)
+{
+    for (int maker = 0; maker < MAKERS; maker++)
+        run_ask(maker);
+    return same_scores();
 }
 
 /* How many of the calls there are to measure, or -1 if the two programs differ. */
@@ -127,12 +150,7 @@ static int prepare(const char *name, const char *lent_name)
     } else if (lent_answer.number != 0) {
         return WRITE;
     }
-    memset(out, 0xee, sizeof out);
-    for (int maker = 0; maker < MAKERS; maker++) {
-        run_write(maker);
-        run_ask(maker);
-    }
-    return same_writing() && same_scores() ? CALLS : -1;
+    return write_both(WRITE) && write_both(WRITE_CR) && ask_both() ? CALLS : -1;
 }
 
 /* ---- instructions: a profiler counts what runs inside this call ---- */
@@ -234,10 +252,19 @@ static void measure_stack(int calls)
         }
 }
 
+/* ---- bytes: those of the file, and those written; a question has none ---- */
+
+static void tell_bytes(int calls)
+{
+    for (int call = 0; call < calls && call < ASK; call++)
+        for (int maker = 0; maker < MAKERS; maker++)
+            printf("%s %s %lu\n", call_names[call], maker_names[maker], (unsigned long)bytes[call]);
+}
+
 int main(int argc, char **argv)
 {
     if (argc != 3 && argc != 4) {
-        printf("usage: driver count|time|stack FILE [LENT]\n");
+        printf("usage: driver count|time|stack|bytes FILE [LENT]\n");
         return 2;
     }
     int calls = prepare(argv[2], argc == 4 ? argv[3] : 0);
@@ -249,7 +276,9 @@ int main(int argc, char **argv)
         count(calls);
     else if (strcmp(argv[1], "time") == 0)
         time_calls(calls);
-    else
+    else if (strcmp(argv[1], "stack") == 0)
         measure_stack(calls);
+    else
+        tell_bytes(calls);
     return 0;
 }

@@ -2,7 +2,6 @@
 #include "plain.h"
 
 #ifdef PENUMBRICO_NO_HEADERS
-typedef _Bool bool;
 enum { false, true };
 void *memset(void *to, int byte, size_t bytes);
 void *memcpy(void *to, const void *from, size_t bytes);
@@ -890,21 +889,37 @@ static uint8_t *put_points(uint8_t *out, uint32_t tenths, uint8_t fill)
     return put_byte(out, (uint8_t)('0' + tenths % 10));
 }
 
-static uint8_t *put_rounds(uint8_t *out, uint32_t rounds)
+static uint8_t *put_line_end(uint8_t *out, bool cr_alone)
+{
+    out = put_byte(out, CR);
+    return cr_alone ? out : put_byte(out, LF);
+}
+
+/* The kept lines, which have one CR each. */
+static uint8_t *put_text(uint8_t *out, const uint8_t *text, size_t length, bool cr_alone)
+{
+    if (cr_alone)
+        return put_bytes(out, text, length);
+    for (size_t i = 0; i < length; i++)
+        out = text[i] == CR ? put_line_end(out, cr_alone) : put_byte(out, text[i]);
+    return out;
+}
+
+static uint8_t *put_rounds(uint8_t *out, uint32_t rounds, bool cr_alone)
 {
     out = put_bytes(out, "142 ", 4);
     out = put_number(out, rounds, rounds < 10 ? 1 : 2, ' ');
-    return put_byte(out, CR);
+    return put_line_end(out, cr_alone);
 }
 
-static uint8_t *put_colour(uint8_t *out, uint8_t colour)
+static uint8_t *put_colour(uint8_t *out, uint8_t colour, bool cr_alone)
 {
     out = put_bytes(out, "152 ", 4);
     out = put_byte(out, colour);
-    return put_byte(out, CR);
+    return put_line_end(out, cr_alone);
 }
 
-static uint8_t *put_values(uint8_t *out, const uint32_t *values)
+static uint8_t *put_values(uint8_t *out, const uint32_t *values, bool cr_alone)
 {
     out = put_bytes(out, "162 ", 4);
     for (int i = 0; i < SLOTS; i++) {
@@ -912,10 +927,10 @@ static uint8_t *put_values(uint8_t *out, const uint32_t *values)
         out = put_byte(out, (uint8_t)value_letters[i]);
         out = put_points(out, values[i], ' ');
     }
-    return put_byte(out, CR);
+    return put_line_end(out, cr_alone);
 }
 
-static uint8_t *put_acceleration(uint8_t *out, const trf_acceleration *a)
+static uint8_t *put_acceleration(uint8_t *out, const trf_acceleration *a, bool cr_alone)
 {
     out = put_bytes(out, "250      ", 9);
     out = put_points(out, a->points, '0');
@@ -927,7 +942,7 @@ static uint8_t *put_acceleration(uint8_t *out, const trf_acceleration *a)
     out = put_number(out, a->first_start, 4, '0');
     out = put_byte(out, ' ');
     out = put_number(out, a->last_start, 4, '0');
-    return put_byte(out, CR);
+    return put_line_end(out, cr_alone);
 }
 
 static uint8_t *put_entry(uint8_t *out, const tournament *t, size_t cell)
@@ -940,7 +955,7 @@ static uint8_t *put_entry(uint8_t *out, const tournament *t, size_t cell)
     return put_byte(out, t->results[cell]);
 }
 
-static uint8_t *put_player(uint8_t *out, const tournament *t, uint32_t place)
+static uint8_t *put_player(uint8_t *out, const tournament *t, uint32_t place, bool cr_alone)
 {
     out = put_bytes(out, "001 ", 4);
     out = put_number(out, t->starts[place], 4, ' ');
@@ -952,14 +967,26 @@ static uint8_t *put_player(uint8_t *out, const tournament *t, uint32_t place)
     out = put_number(out, t->ranks[place], 4, ' ');
     for (uint32_t round = 1; round <= t->rounds; round++)
         out = put_entry(out, t, cell_of(place, round));
-    return put_byte(out, CR);
+    return put_line_end(out, cr_alone);
 }
 
-static size_t written_length(const trf_answer *a)
+/* The kept lines, 142, 152 if known, 162, the 250 lines, the 001 lines. */
+static size_t written_lines(const trf_answer *a, const uint8_t *text)
+{
+    size_t text_lines = 0, colour_lines = a->colour == 0 ? 0 : 1;
+    for (size_t i = 0; i < a->text; i++)
+        if (text[i] == CR)
+            text_lines++;
+    return text_lines + 1 + colour_lines + 1 + a->accelerations + a->players;
+}
+
+/* Every line with its CR, and with CR LF a byte more for each. */
+static size_t written_length(const trf_answer *a, const uint8_t *text, bool cr_alone)
 {
     size_t rounds_line = a->rounds < 10 ? 6 : 7, colour_line = a->colour == 0 ? 0 : 6, values_line = 56;
     size_t player_line = 89 + (size_t)ENTRY_COLUMNS * a->rounds + 1;
-    return a->text + rounds_line + colour_line + values_line + (size_t)32 * a->accelerations + player_line * a->players;
+    size_t length = a->text + rounds_line + colour_line + values_line + (size_t)32 * a->accelerations + player_line * a->players;
+    return cr_alone ? length : length + written_lines(a, text);
 }
 
 trf_written plain_write(trf_answer answer,
@@ -972,6 +999,7 @@ trf_written plain_write(trf_answer answer,
                         const uint8_t *results, size_t results_cells,
                         const uint8_t *text, size_t text_cells,
                         const trf_acceleration *accelerations, size_t accelerations_cells,
+                        bool cr_alone,
                         uint8_t *out, size_t out_bytes)
 {
     tournament t;
@@ -985,20 +1013,20 @@ trf_written plain_write(trf_answer answer,
         written.number = TRF_NO_READING;
         return written;
     }
-    size_t length = written_length(&answer);
+    size_t length = written_length(&answer, text, cr_alone);
     if (out_bytes < length) {
         written.number = TRF_OUT_SHORT;
         return written;
     }
-    out = put_bytes(out, text, answer.text);
-    out = put_rounds(out, answer.rounds);
+    out = put_text(out, text, answer.text, cr_alone);
+    out = put_rounds(out, answer.rounds, cr_alone);
     if (answer.colour != 0)
-        out = put_colour(out, answer.colour);
-    out = put_values(out, answer.values);
+        out = put_colour(out, answer.colour, cr_alone);
+    out = put_values(out, answer.values, cr_alone);
     for (uint32_t i = 0; i < t.accelerations; i++)
-        out = put_acceleration(out, &t.list[i]);
+        out = put_acceleration(out, &t.list[i], cr_alone);
     for (uint32_t place = 0; place < t.players; place++)
-        out = put_player(out, &t, place);
+        out = put_player(out, &t, place, cr_alone);
     written.length = length;
     return written;
 }

@@ -26,6 +26,7 @@ trf_written plain_write(trf_answer answer,
                         const uint8_t *results, size_t results_cells,
                         const uint8_t *text, size_t text_cells,
                         const trf_acceleration *accelerations, size_t accelerations_cells,
+                        bool cr_alone,
                         uint8_t *out, size_t out_bytes);
 
 trf_score plain_ask(trf_answer answer,

@@ -1,4 +1,5 @@
-/* Lists a report file from standard input, read by plain_read. Then it writes the reading, reads that back and says on standard error if they differ. */
+/* Lists a report file from standard input, read by plain_read. Then it writes the reading with either line end, reads that back and says on standard error if
+   they differ. */
 #include <stdio.h>
 #include <string.h>
 #include "plain.h"
@@ -42,13 +43,13 @@ static int same_answer(const trf_answer *a, const trf_answer *b)
         && a->accelerations == b->accelerations && a->text == b->text && a->colour == b->colour && memcmp(a->values, b->values, sizeof a->values) == 0;
 }
 
-static int round_trip(trf_answer answer, const tables *t)
+static int round_trip(trf_answer answer, const tables *t, bool cr_alone)
 {
     static uint8_t out[TRF_MOST_WRITTEN];
     static tables again;
     trf_written w = plain_write(answer, t->starts, TRF_PLAYER_CELLS, t->points, TRF_PLAYER_CELLS, t->ranks, TRF_PLAYER_CELLS, t->kept, TRF_KEPT_CELLS,
                                 t->opponents, TRF_ENTRY_CELLS, t->colours, TRF_ENTRY_CELLS, t->results, TRF_ENTRY_CELLS, t->text, TRF_TEXT_CELLS,
-                                t->accelerations, TRF_ACCELERATION_CELLS, out, sizeof out);
+                                t->accelerations, TRF_ACCELERATION_CELLS, cr_alone, out, sizeof out);
     if (answer.number != 0)
         return w.number == TRF_NO_READING;
     trf_answer back = read_file(out, w.length, &again);
@@ -63,7 +64,7 @@ int main(void)
     size_t bytes = fread(file, 1, sizeof file, stdin);
     trf_answer answer = read_file(file, bytes, &t);
     list(&answer, &t);
-    if (!round_trip(answer, &t)) {
+    if (!round_trip(answer, &t, TRF_CR_LF) || !round_trip(answer, &t, TRF_CR)) {
         fprintf(stderr, "what was written reads differently\n");
         return 1;
     }
