@@ -147,6 +147,13 @@ static void add_line(chance *c, reading *r, size_t at)
     if (can_grow(r, length)) insert_text(r, line_start(r, at), bytes, length);
 }
 
+/* A line of the text ends with CR LF, as in a file. */
+static void add_lf(reading *r, size_t at)
+{
+    size_t start = line_start(r, at);
+    if (can_grow(r, 1)) insert_text(r, start + line_bytes(r, start), (const uint8_t *)"\n", 1);
+}
+
 /* A line of up to 512 bytes and more, by 112 lines that lose the CR between them. */
 static void join_lines_of(reading *r, size_t at)
 {
@@ -159,7 +166,7 @@ static void change_text(chance *c, reading *r)
     if (r->answer.text == 0 || r->answer.text > TRF_MOST_TEXT) return;
     size_t at = below(c, (uint32_t)r->answer.text);
     uint8_t byte = one_in(c, 3) ? ' ' : any_byte(c, 0);
-    switch (below(c, 9)) {
+    switch (below(c, 10)) {
     case 0: r->t.text[at] = byte; break;
     case 1: r->t.text[line_start(r, at) + below(c, 5)] = byte; break;
     case 2: if (can_grow(r, 1)) insert_text(r, at, &byte, 1); break;
@@ -167,6 +174,7 @@ static void change_text(chance *c, reading *r)
     case 4: lose_line(r, at); break;
     case 5: repeat_line(r, at); break;
     case 6: join_lines_of(r, at); break;
+    case 7: add_lf(r, at); break;
     default: add_line(c, r, at);
     }
 }

@@ -23,6 +23,15 @@ static report lines;
 static file input;
 static reading got, again, given;
 
+/* What was written of one reading, by its line end: TRF_CR_LF, TRF_CR. */
+typedef struct {
+    trf_written answer;
+    uint8_t bytes[TRF_MOST_WRITTEN];
+} writing;
+
+static writing written[2];
+static size_t longest[2];
+
 enum { BYTES_AT_RANDOM, A_VECTOR, A_DAMAGED_VECTOR, A_TOURNAMENT, A_DAMAGED_TOURNAMENT, KINDS };
 static const char *const KIND[KINDS] = {"bytes at random", "a vector", "a damaged vector", "a tournament", "a damaged tournament"};
 static uint64_t kinds[KINDS];
@@ -141,14 +150,19 @@ static lengths draw_lengths(chance *c)
     return lent;
 }
 
-/* Exact, one short, none, or more than is wanted. */
-static size_t draw_room(chance *c, size_t wanted)
+static bool draw_line_end(chance *c) { return one_in(c, 2) ? TRF_CR : TRF_CR_LF; }
+
+/* For one of the line ends exact, one short, none, or more than is wanted; or from what is enough for CR alone up to what is one short for CR LF. */
+static size_t draw_room(chance *c)
 {
+    size_t least = written[TRF_CR].answer.length, most = written[TRF_CR_LF].answer.length, wanted = draw_line_end(c) == TRF_CR ? least : most;
+    if (most == 0) return below(c, 3000);
     switch (below(c, 6)) {
     case 0: return wanted;
-    case 1: return wanted > 0 ? wanted - 1 : 0;
-    case 2: return below(c, (uint32_t)wanted + 1);
-    case 3: return wanted + below(c, 60);
+    case 1: return wanted - 1;
+    case 2: return between(c, (uint32_t)least, (uint32_t)most - 1);
+    case 3: return below(c, (uint32_t)wanted + 1);
+    case 4: return wanted + below(c, 60);
     default: return wanted + 1;
     }
 }
@@ -175,29 +189,73 @@ static void number_lines(reading *r)
     for (uint32_t i = 0; i < r->answer.players; i++) r->t.lines[i] = before + r->answer.accelerations + 1 + i;
 }
 
-/* What was written reads as the same tournament, and is written again byte by byte. */
-static void law_of_round_trip(chance *c, reading *r, size_t length)
+/* A reading to the writer, in room for every report with this line end. */
+static void write_whole(chance *c, const reading *r, bool cr_alone)
 {
-    static uint8_t first[TRF_MOST_WRITTEN];
     lengths lent = listed_lengths();
-    memcpy(first, written_bytes(), length);
-    read_both(c, first, length, &lent, &again);
-    number_lines(r);
-    expect_reading(&again, r, 1, "a written report, read");
-    trf_written w = write_both(c, &again, &lent, length);
-    if (w.number != 0 || w.length != length || memcmp(written_bytes(), first, length) != 0) disagree("a written report is not written again unchanged");
+    writing *w = &written[cr_alone];
+    w->answer = write_both(c, r, &lent, cr_alone, most_written(cr_alone));
+    if (w->answer.number == 19) disagree("room for every report was too short");
+    memcpy(w->bytes, written_bytes(), w->answer.length);
+    if (w->answer.length > longest[cr_alone]) longest[cr_alone] = w->answer.length;
 }
 
-/* A reading to writer and question, with all kinds of room. Hands back whether it is an accepted file's. */
+/* With CR LF the same is answered and written as with CR alone, and an LF after each CR. */
+static void law_of_line_ends(void)
+{
+    static uint8_t wanted[2 * TRF_MOST_WRITTEN_CR];
+    const writing *cr = &written[TRF_CR], *cr_lf = &written[TRF_CR_LF];
+    size_t length = 0;
+    now.step = "write, both line ends";
+    if (cr->answer.number != cr_lf->answer.number) disagree("number %u with CR alone, %u with CR LF", cr->answer.number, cr_lf->answer.number);
+    for (size_t i = 0; i < cr->answer.length; i++) {
+        wanted[length++] = cr->bytes[i];
+        if (cr->bytes[i] == '\r') wanted[length++] = '\n';
+    }
+    if (cr_lf->answer.length != length) disagree("%lu bytes with CR LF, not %lu", (unsigned long)cr_lf->answer.length, (unsigned long)length);
+    if (memcmp(cr_lf->bytes, wanted, length) != 0) disagree("with CR LF is not written what is written with CR alone, and an LF after each CR");
+}
+
+/* "19: output too short", of the length with this line end: 1, 18 and the bytes are as in room for every report. */
+static void law_of_room(chance *c, const reading *r, const lengths *lent, bool cr_alone, size_t room)
+{
+    const writing *whole = &written[cr_alone];
+    size_t length = whole->answer.length;
+    trf_written w = write_both(c, r, lent, cr_alone, room);
+    uint32_t number = is_short(lent, LINES) ? 1 : whole->answer.number != 0 ? whole->answer.number : room < length ? 19 : 0;
+    if (w.number != number) disagree("number %u, not %u, in room for %lu of %lu bytes", w.number, number, (unsigned long)room, (unsigned long)length);
+    if (number == 0 && (w.length != length || memcmp(written_bytes(), whole->bytes, length) != 0)) disagree("a report is not written as before");
+}
+
+/* What was written reads as the same tournament, and is written again byte by byte. */
+static void law_of_round_trip(chance *c, reading *r, bool cr_alone)
+{
+    lengths lent = listed_lengths();
+    const writing *w = &written[cr_alone];
+    read_both(c, w->bytes, w->answer.length, &lent, &again);
+    number_lines(r);
+    expect_reading(&again, r, 1, cr_alone ? "a report written with CR alone, read" : "a report written with CR LF, read");
+    law_of_room(c, &again, &lent, cr_alone, w->answer.length);
+}
+
+/* A reading to writer and question, with both line ends and all kinds of room. Hands back whether it is an accepted file's. */
 static int try_reading(chance *c, reading *r)
 {
-    lengths lent = listed_lengths(), other = draw_lengths(c);
-    trf_written w = write_both(c, r, &lent, TRF_MOST_WRITTEN);
-    if (w.number == 19) disagree("room for every report was too short");
-    if (w.number == 0) law_of_round_trip(c, r, w.length);
-    write_both(c, r, &other, draw_room(c, w.number == 0 ? w.length : below(c, 3000)));
+    lengths lent = draw_lengths(c);
+    bool first = draw_line_end(c);
+    write_whole(c, r, first);
+    write_whole(c, r, !first);
+    law_of_line_ends();
+    int is_accepted = written[first].answer.number == 0;
+    if (is_accepted) {
+        law_of_round_trip(c, r, first);
+        law_of_round_trip(c, r, !first);
+    }
+    size_t room = draw_room(c);
+    law_of_room(c, r, &lent, first, room);
+    law_of_room(c, r, &lent, !first, room);
     ask_some(c, r);
-    return w.number == 0;
+    return is_accepted;
 }
 
 static void try_damaged(chance *c)
@@ -214,6 +272,14 @@ static void law_of_tournament(void)
     else if (got.answer.number != 2) disagree("number %u for %lu bytes", got.answer.number, (unsigned long)input.length);
 }
 
+/* What is full in every table, in as many lines as can be, has the longest report. */
+static void law_of_longest(void)
+{
+    size_t cr_lf = written[TRF_CR_LF].answer.length, cr = written[TRF_CR].answer.length;
+    now.step = "write, the longest report";
+    if (cr_lf != TRF_MOST_WRITTEN || cr != TRF_MOST_WRITTEN_CR) disagree("%lu bytes with CR LF, %lu with CR alone", (unsigned long)cr_lf, (unsigned long)cr);
+}
+
 static void one_input(uint64_t seed, uint64_t number)
 {
     chance c = {seed * 0x9e3779b97f4a7c15u ^ (number + 1) * 0xd1342543de82ef95u};
@@ -227,6 +293,7 @@ static void one_input(uint64_t seed, uint64_t number)
     if (a.number == 0) {
         given = got;
         if (!try_reading(&c, &given)) disagree("an accepted reading is refused by the writer");
+        if (kind == A_TOURNAMENT && made.is_longest) law_of_longest();
         for (uint32_t left = between(&c, 1, 2); left > 0; left--) try_damaged(&c);
     } else if (one_in(&c, 16)) {
         given = got;
@@ -305,6 +372,7 @@ int main(int words, char **word)
     printf("seed %lu, %lu inputs from %lu on, %lu vectors\n", (unsigned long)o.seed, (unsigned long)done, (unsigned long)o.first, (unsigned long)vectors_read);
     for (int kind = 0; kind < KINDS; kind++) printf("%12lu %s\n", (unsigned long)kinds[kind], KIND[kind]);
     print_counts();
+    printf("longest report written: %lu bytes with CR LF, %lu with CR alone\n", (unsigned long)longest[TRF_CR_LF], (unsigned long)longest[TRF_CR]);
     printf("%lu inputs in %.1f seconds, %.0f a second\n", (unsigned long)done, taken, (double)done / taken);
     if (!reached_all(o.least)) {
         printf("some answer came up fewer than %lu times\n", (unsigned long)o.least);

@@ -132,12 +132,12 @@ trf_answer read_both(chance *c, const uint8_t *bytes, size_t length, const lengt
     return answers[0];
 }
 
-static trf_written call_write(const side *s, const reading *r, const lengths *lent, uint8_t *to, size_t room)
+static trf_written call_write(const side *s, const reading *r, const lengths *lent, bool cr_alone, uint8_t *to, size_t room)
 {
     const size_t *n = lent->cells;
     const tables *t = &r->t;
     return s->write(r->answer, t->starts, n[STARTS], t->points, n[POINTS], t->ranks, n[RANKS], t->kept, n[KEPT], t->opponents, n[OPPONENTS],
-                    t->colours, n[COLOURS], t->results, n[RESULTS], t->text, n[TEXT], t->accelerations, n[ACCELERATIONS], to, room);
+                    t->colours, n[COLOURS], t->results, n[RESULTS], t->text, n[TEXT], t->accelerations, n[ACCELERATIONS], cr_alone, to, room);
 }
 
 static void same_written(const trf_written *one, const trf_written *other)
@@ -157,34 +157,37 @@ static void same_output(size_t room)
 }
 
 /* "The bytes after the writer's last one stay as they were"; a refusal changes none and gives no length. */
-static void law_of_writing(const trf_written *w, const lengths *lent, size_t room, uint8_t byte)
+static void law_of_writing(const trf_written *w, const lengths *lent, bool cr_alone, size_t room, uint8_t byte)
 {
     if ((w->number == 1) != is_short(lent, LINES)) disagree("number %u, and a table is%s short", w->number, is_short(lent, LINES) ? "" : " not");
     if (w->number != 0 && w->length != 0) disagree("number %u with length %lu", w->number, (unsigned long)w->length);
-    if (w->length > room || w->length > TRF_MOST_WRITTEN) disagree("length %lu in room for %lu", (unsigned long)w->length, (unsigned long)room);
+    if (w->length > room || w->length > most_written(cr_alone)) disagree("length %lu in room for %lu", (unsigned long)w->length, (unsigned long)room);
     if (w->line.line != 0 || w->round != 0) disagree("a writing with line %u, round %u", w->line.line, w->round);
     for (size_t i = w->length; i < room + PAST_ROOM; i++)
         if (out[0][i] != byte) disagree("output byte %lu, past the last one, changed from %u to %u", (unsigned long)i, byte, out[0][i]);
 }
 
-trf_written write_both(chance *c, const reading *given, const lengths *lent, size_t room)
+trf_written write_both(chance *c, const reading *given, const lengths *lent, bool cr_alone, size_t room)
 {
+    static const char *const STEPS[2][3] = {{"write, CR LF, proved side", "write, CR LF, plain side", "write, CR LF"},
+                                            {"write, CR alone, proved side", "write, CR alone, plain side", "write, CR alone"}};
     trf_written answers[2];
     uint8_t byte = (uint8_t)draw(c);
     wanted = given->t;
     now.given = given;
     now.lent = *lent;
+    now.cr_alone = cr_alone;
     now.room = room;
     for (int i = 0; i < 2; i++) {
         memset(out[i], byte, room + PAST_ROOM);
-        now.step = i == 0 ? "write, proved side" : "write, plain side";
-        answers[i] = call_write(&SIDES[i], given, lent, out[i], room);
+        now.step = STEPS[cr_alone][i];
+        answers[i] = call_write(&SIDES[i], given, lent, cr_alone, out[i], room);
         same_tables(&given->t, &wanted, "a table that a writing changed");
     }
-    now.step = "write";
+    now.step = STEPS[cr_alone][2];
     same_written(&answers[0], &answers[1]);
     same_output(room);
-    law_of_writing(&answers[0], lent, room, byte);
+    law_of_writing(&answers[0], lent, cr_alone, room, byte);
     count_answer(WRITES, answers[0].number);
     return answers[0];
 }

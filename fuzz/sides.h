@@ -14,6 +14,7 @@ typedef struct {
     size_t length, read_length;
     const reading *base, *given; /* the accepted reading, and what was handed to writer or question */
     lengths lent;
+    bool cr_alone; /* how the lines were to end: TRF_CR_LF or TRF_CR */
     size_t room;
     uint32_t place, round;
 } trial;
@@ -27,8 +28,11 @@ void prepare_sides(void);
 /* Each call is made on both sides, with equal tables and equal bytes around them; it is compared, and the answer is handed back. The tables that the
    proved side has read stay in the reading. */
 trf_answer read_both(chance *c, const uint8_t *bytes, size_t length, const lengths *lent, reading *found);
-trf_written write_both(chance *c, const reading *given, const lengths *lent, size_t room);
+trf_written write_both(chance *c, const reading *given, const lengths *lent, bool cr_alone, size_t room);
 trf_score ask_both(const reading *given, const lengths *lent, uint32_t place, uint32_t round);
+
+/* The length of the longest report. */
+static inline size_t most_written(bool cr_alone) { return cr_alone ? TRF_MOST_WRITTEN_CR : TRF_MOST_WRITTEN; }
 
 /* The bytes that the last writing left. */
 const uint8_t *written_bytes(void);

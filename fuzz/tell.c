@@ -104,7 +104,8 @@ static void save_given(FILE *f)
     save_answer(f, "answer handed over", &now.given->answer);
     for (int which = 0; which < LINES; which++)
         for (size_t cell = 0; cell < TABLE[which].listed; cell++) save_cell(f, which, cell);
-    fprintf(f, "output room %lu, place %u, round %u\n", (unsigned long)now.room, now.place, now.round);
+    fprintf(f, "lines ended by %s, output room %lu, ", now.cr_alone ? "CR alone" : "CR LF", (unsigned long)now.room);
+    fprintf(f, "place %u, round %u\n", now.place, now.round);
 }
 
 static void save_words(const char *words)

@@ -3,7 +3,8 @@
 const uint32_t DEFAULT_VALUES[6] = {10, 5, 0, 0, 10, 5};
 const char *const TEXT_CODES[16] = {"012", "022", "032", "042", "052", "062", "072", "092",
                                     "102", "122", "132", "192", "202", "212", "222", "112"};
-enum { ONCE_CODES = 14 }; /* TEXT_CODES 1 to 14 */
+enum { ONCE_CODES = 14 };       /* TEXT_CODES 1 to 14 */
+enum { MOST_TEXT_LINES = 511 }; /* 012 and three bytes, 510 times a bare 112 */
 
 /* Mostly small, at times as large as can be. */
 static uint32_t draw_players(chance *c)
@@ -224,20 +225,34 @@ static void draw_text(chance *c, reading *r, int is_largest)
     if (is_largest || one_in(c, 25)) fill_text(c, r);
 }
 
+/* All of the text's bytes in as many lines as can be. */
+static void draw_most_lines(chance *c, reading *r)
+{
+    uint8_t name[TRF_MOST_LINE];
+    size_t name_length = draw_text_line(c, "012", 7, name);
+    uint32_t name_at = below(c, MOST_TEXT_LINES);
+    for (uint32_t i = 0; i < MOST_TEXT_LINES; i++) {
+        if (i == name_at) add_text(r, name, name_length);
+        else add_text(r, (const uint8_t *)"112", 3);
+    }
+}
+
 void draw_tournament(chance *c, tournament *to)
 {
     reading *r = &to->r;
-    int is_largest = one_in(c, 2500); /* full in every table */
+    int is_largest = one_in(c, 1000); /* full in every table */
     memset(to, 0, sizeof *to);
+    to->is_longest = is_largest && one_in(c, 2);
     r->answer.players = is_largest ? TRF_MOST_PLAYERS : draw_players(c);
     r->answer.rounds = is_largest ? TRF_MOST_ROUNDS : draw_rounds(c);
-    r->answer.colour = (uint8_t)(one_in(c, 2) ? 0 : byte_of(c, "WB"));
+    r->answer.colour = (uint8_t)(!to->is_longest && one_in(c, 2) ? 0 : byte_of(c, "WB"));
     draw_values(c, &r->answer);
     draw_starts(c, r);
     for (uint32_t i = 0; i < r->answer.players; i++) draw_kept(c, r->t.kept + i * KEPT_COLUMNS);
     for (uint32_t round = 0; round < r->answer.rounds; round++) draw_round(c, r, round);
     fix_points(r);
     draw_accelerations(c, r, is_largest);
-    draw_text(c, r, is_largest);
+    if (to->is_longest) draw_most_lines(c, r);
+    else draw_text(c, r, is_largest);
     to->stated_rounds = one_in(c, 2) ? r->answer.rounds : NOT_STATED;
 }

@@ -9,6 +9,7 @@ enum { NOT_STATED = 1000 };
 typedef struct {
     reading r;
     uint32_t stated_rounds; /* what 142 says, or NOT_STATED */
+    int is_longest;         /* its report is the longest that can be written */
 } tournament;
 
 extern const uint32_t DEFAULT_VALUES[6];
