@@ -1,6 +1,7 @@
-/* The structs of the header against what the library fills in, and its words. Sizes and offsets stand here as numbers. A report in which every part of an answer has a value
-   of its own is read, asked and written; each part must then be found at its offset in the bytes that the library left, and by its name in the struct. Nothing
-   is asked of the bytes between the parts. */
+/* The structs of the header against what the library fills in, its words, and the line ends. Sizes, offsets and lengths stand here as numbers. A report in
+   which every part of an answer has a value of its own is read, asked and written; each part must then be found at its offset in the bytes that the library
+   left, and by its name in the struct. Nothing is asked of the bytes between the parts. What is written must have the line ends that the call names, in exactly
+   its room and in no less; so must the longest report. */
 #include "report.h"
 
 #include <stddef.h>
@@ -9,16 +10,16 @@
 #include "penumbrico.h"
 
 /* The three calls as the machine knows them (System V, x86-64): the room of what is answered is lent as a first argument. So plain bytes, which held something
-   else before, are seen to be filled in. */
+   else before, are seen to be filled in. A bool has the lowest of its argument's eight bytes; the others may hold anything. */
 #define LENT_TABLES                                                                                                                                        \
     uint32_t *, size_t, uint32_t *, size_t, uint32_t *, size_t, uint8_t *, size_t, uint32_t *, size_t, uint8_t *, size_t, uint8_t *, size_t, uint8_t *,    \
         size_t, trf_acceleration *, size_t
 void *raw_read(uint8_t *, const uint8_t *, size_t, LENT_TABLES, uint32_t *, size_t) __asm__("trf_read");
-void *raw_write(uint8_t *, trf_answer, LENT_TABLES, uint8_t *, size_t) __asm__("trf_write");
+void *raw_write(uint8_t *, trf_answer, LENT_TABLES, uint64_t, uint8_t *, size_t) __asm__("trf_write");
 void *raw_ask(uint8_t *, trf_answer, LENT_TABLES, trf_place, uint32_t) __asm__("trf_ask");
 
 /* Values above 255 wherever the rules allow them, so that a part's width is seen too; the empty lines before the report serve the line numbers. */
-enum { EMPTY_LINES = 300, TEXT = 273, WRITTEN = 885 };
+enum { EMPTY_LINES = 300, TEXT = 273, WRITTEN_CR = 885, WRITTEN_CR_LF = 896 };
 
 #define X65 "xxxxxxxxxxxxxxxxxxxxxxxxxxxxxxxxxxxxxxxxxxxxxxxxxxxxxxxxxxxxxxxxx"
 static const char report[] =
@@ -38,7 +39,7 @@ enum { FILE_BYTES = EMPTY_LINES + sizeof report - 1 };
 
 static trf_tables tables;
 static uint8_t file[FILE_BYTES];
-static uint8_t out[WRITTEN];
+static uint8_t out[TRF_MOST_WRITTEN + 8]; /* the longest report and some bytes after it */
 static int failures;
 
 static void same(const char *what, uint64_t got, uint64_t wanted)
@@ -148,12 +149,20 @@ static trf_answer answers(int pattern, uint32_t number, uint32_t line, uint32_t 
     return seen;
 }
 
-static void writes(trf_answer answer, int pattern, size_t room, uint32_t number, size_t length)
+/* The eight bytes of an argument that is a bool, the pattern in all but its own. */
+static uint64_t slot_of(bool value, int pattern)
+{
+    uint64_t bytes;
+    memset(&bytes, pattern, sizeof bytes);
+    return (bytes & ~(uint64_t)255) | value;
+}
+
+static void writes(trf_answer answer, int pattern, bool cr_alone, size_t room, uint32_t number, size_t length)
 {
     uint8_t raw[ROOM];
     memset(raw, pattern, ROOM);
-    raw_write(raw, answer, TRF_LENT(tables), out, room);
-    trf_written seen = trf_write(answer, TRF_LENT(tables), out, room);
+    raw_write(raw, answer, TRF_LENT(tables), slot_of(cr_alone, pattern), out, room);
+    trf_written seen = trf_write(answer, TRF_LENT(tables), cr_alone, out, room);
     PART(trf_written, seen, raw, number, 0, 4, number);
     PART(trf_written, seen, raw, line.line, 4, 4, 0);
     PART(trf_written, seen, raw, round, 8, 4, 0);
@@ -175,6 +184,45 @@ static void asks(trf_answer answer, int pattern, uint32_t place, uint32_t round,
     left_behind("a byte behind trf_score", raw, sizeof seen, pattern);
 }
 
+static uint64_t changed_from(size_t first, int pattern)
+{
+    uint64_t count = 0;
+    for (size_t i = first; i < sizeof out; i++)
+        count += out[i] != (uint8_t)pattern;
+    return count;
+}
+
+/* One byte less than the room that a report takes, and exactly that room. */
+static void fits(trf_answer answer, int pattern, bool cr_alone, size_t length)
+{
+    memset(out, pattern, sizeof out);
+    writes(answer, pattern, cr_alone, length - 1, TRF_OUT_SHORT, 0);
+    same("bytes of the output that a refusal changes", changed_from(0, pattern), 0);
+    writes(answer, pattern, cr_alone, length, TRF_ACCEPTED, length);
+    same("bytes of the output that change past the report", changed_from(length, pattern), 0);
+}
+
+/* Whether the output is the report with an LF after each CR. */
+static int has_lfs(void)
+{
+    size_t at = 0;
+    for (size_t i = 0; i < WRITTEN_CR; i++)
+        if (out[at++] != (uint8_t)report[i] || (report[i] == '\r' && out[at++] != '\n'))
+            return 0;
+    return at == WRITTEN_CR_LF;
+}
+
+/* Every number but 0 is TRF_CR, whatever its lowest byte. */
+static void other_numbers(trf_answer answer)
+{
+    static const volatile uint32_t numbers[] = {2, 255, 256, 0x80000000u};
+    for (size_t i = 0; i < sizeof numbers / sizeof numbers[0]; i++) {
+        memset(out, 0, sizeof out);
+        same("the length where another number asks for CR alone", trf_write(answer, TRF_LENT(tables), numbers[i], out, sizeof out).length, WRITTEN_CR);
+        same("the report where another number asks for CR alone", (uint64_t)memcmp(out, report, WRITTEN_CR), 0);
+    }
+}
+
 static void accepted(int pattern)
 {
     static const uint32_t values[6] = {300, 271, 13, 27, 309, 999};
@@ -184,10 +232,50 @@ static void accepted(int pattern)
     asks(answer, pattern, 0, 3, TRF_ACCEPTED, 609, 401);
     asks(answer, pattern, 3, 3, TRF_ACCEPTED, 298, 0);
     asks(answer, pattern, 4, 3, TRF_NO_PLACE, 0, 0);
-    writes(answer, pattern, WRITTEN - 1, TRF_OUT_SHORT, 0);
-    memset(out, pattern, sizeof out);
-    writes(answer, pattern, WRITTEN, TRF_ACCEPTED, WRITTEN);
-    same("the report, written in the spelling in which it was read", (uint64_t)memcmp(out, report, WRITTEN), 0);
+    fits(answer, pattern, TRF_CR, WRITTEN_CR);
+    same("the report, written in the spelling in which it was read", (uint64_t)memcmp(out, report, WRITTEN_CR), 0);
+    fits(answer, pattern, TRF_CR_LF, WRITTEN_CR_LF);
+    same("the report, written so with an LF after each CR", (uint64_t)has_lfs(), 1);
+    other_numbers(answer);
+}
+
+/* Every table full, in as many lines as can be: byes in all rounds, and records of one start number each. */
+static trf_answer fill_tables(void)
+{
+    trf_answer answer = {.players = 200, .rounds = 20, .accelerations = 32, .text = 2048, .colour = 'W', .values = {10, 5, 0, 0, 10, 5}};
+    memset(&tables, 0, sizeof tables);
+    memset(tables.kept, ' ', sizeof tables.kept);
+    memset(tables.colours, '-', sizeof tables.colours);
+    memset(tables.results, 'Z', sizeof tables.results);
+    memcpy(tables.text, "012 xyz\r", 8);
+    for (size_t i = 8; i < sizeof tables.text; i += 4)
+        memcpy(tables.text + i, "112\r", 4);
+    for (uint32_t i = 0; i < 200; i++)
+        tables.starts[i] = tables.ranks[i] = i + 1;
+    for (uint32_t i = 0; i < 32; i++)
+        tables.accelerations[i] = (trf_acceleration){1, 1, 20, i + 1, i + 1};
+    return answer;
+}
+
+static uint64_t count_of(uint8_t byte)
+{
+    uint64_t count = 0;
+    for (size_t i = 0; i < sizeof out; i++)
+        count += out[i] == byte;
+    return count;
+}
+
+static void longest(int pattern)
+{
+    trf_answer answer = fill_tables();
+    fits(answer, pattern, TRF_CR, 61141);
+    same("CRs of the longest report with CR alone", count_of('\r'), 746);
+    same("its LFs", count_of('\n'), 0);
+    fits(answer, pattern, TRF_CR_LF, 61887);
+    same("CRs of the longest report with CR LF", count_of('\r'), 746);
+    same("its LFs", count_of('\n'), 746);
+    same("TRF_MOST_WRITTEN_CR", TRF_MOST_WRITTEN_CR, 61141);
+    same("TRF_MOST_WRITTEN", TRF_MOST_WRITTEN, 61887);
 }
 
 /* The second player's last result no longer fits the first one's; the tables are cleared. */
@@ -216,6 +304,7 @@ static void words(void)
             parts[at] = 10 * parts[at] + (uint32_t)(*c - '0');
     }
     same("the version's number", TRF_VERSION_NUMBER, 10000 * parts[0] + 100 * parts[1] + parts[2]);
+    same("the version", TRF_VERSION_NUMBER, 20000);
     same("an acceptance in words", (uint64_t)strcmp(trf_words(TRF_ACCEPTED), "accepted"), 0);
     for (uint32_t number = 1; number <= TRF_NO_PLACE; number++)
         same("a refusal without words", strcmp(trf_words(number), trf_words(TRF_NO_PLACE + 1)) == 0, 0);
@@ -244,8 +333,9 @@ int check_layout(void)
     for (size_t i = 0; i < 2; i++) {
         accepted(patterns[i]);
         refused(patterns[i]);
+        longest(patterns[i]);
     }
     if (failures == 0)
-        printf("layout: every part of trf_acceleration, trf_answer, trf_written and trf_score stands where the library puts it\n");
+        printf("layout: every part of trf_acceleration, trf_answer, trf_written and trf_score stands where the library puts it, and lines end as the call says\n");
     return failures == 0 ? DONE : FAILED;
 }

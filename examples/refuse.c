@@ -29,21 +29,21 @@ static trf_answer short_table(const uint8_t *file, size_t file_bytes)
 }
 
 /* A tenth of a point more than the first player's rounds give. */
-static trf_written changed_cell(trf_answer answer)
+static trf_written changed_cell(trf_answer answer, bool cr_alone)
 {
     memset(out, BEFORE, sizeof out);
     tables.points[0]++;
-    trf_written written = trf_write(answer, TRF_LENT(tables), out, sizeof out);
+    trf_written written = trf_write(answer, TRF_LENT(tables), cr_alone, out, sizeof out);
     tables.points[0]--;
     return written;
 }
 
-/* One byte less than the report takes. */
-static trf_written short_output(trf_answer answer)
+/* One byte less than the report takes with these line ends. */
+static trf_written short_output(trf_answer answer, bool cr_alone)
 {
-    size_t length = trf_write(answer, TRF_LENT(tables), out, sizeof out).length;
+    size_t length = trf_write(answer, TRF_LENT(tables), cr_alone, out, sizeof out).length;
     memset(out, BEFORE, sizeof out);
-    return trf_write(answer, TRF_LENT(tables), out, length - 1);
+    return trf_write(answer, TRF_LENT(tables), cr_alone, out, length - 1);
 }
 
 /* The place after the last player's. */
@@ -60,6 +60,17 @@ static int told(uint32_t wanted, uint32_t number, uint32_t line, uint32_t round,
     return number == wanted && touched == 0 ? DONE : FAILED;
 }
 
+/* A writing that is to be refused, with either line end. Of the one with CR alone is told only what is wrong. */
+static int told_of_writing(uint32_t wanted, trf_answer answer, trf_written provoked(trf_answer answer, bool cr_alone))
+{
+    trf_written cr = provoked(answer, TRF_CR);
+    size_t touched = changed(out, sizeof out);
+    if (cr.number != wanted || touched != 0)
+        return told(wanted, cr.number, cr.line.line, cr.round, touched);
+    trf_written cr_lf = provoked(answer, TRF_CR_LF);
+    return told(wanted, cr_lf.number, cr_lf.line.line, cr_lf.round, changed(out, sizeof out));
+}
+
 int provoke(uint32_t number, const uint8_t *file, size_t file_bytes)
 {
     if (number == TRF_TABLE_SHORT) {
@@ -71,14 +82,10 @@ int provoke(uint32_t number, const uint8_t *file, size_t file_bytes)
         print_refused(stderr, answer.number, answer.line.line, answer.round);
         return REFUSED;
     }
-    if (number == TRF_NO_READING) {
-        trf_written refused = changed_cell(answer);
-        return told(number, refused.number, refused.line.line, refused.round, changed(out, sizeof out));
-    }
-    if (number == TRF_OUT_SHORT) {
-        trf_written refused = short_output(answer);
-        return told(number, refused.number, refused.line.line, refused.round, changed(out, sizeof out));
-    }
+    if (number == TRF_NO_READING)
+        return told_of_writing(number, answer, changed_cell);
+    if (number == TRF_OUT_SHORT)
+        return told_of_writing(number, answer, short_output);
     if (number == TRF_NO_PLACE) {
         trf_score refused = no_player(answer);
         return told(number, refused.number, refused.line.line, refused.round, 0);

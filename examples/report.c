@@ -2,8 +2,8 @@
 
        report list [FILE]..           what ./list prints; of several files each after a line with its name
        report ask START ROUND [FILE]  a player's start number, the points earned before the round and the acceleration for it, in tenths
-       report write [FILE]            the report in the writer's spelling
-       report layout                  test: the structs of the header against what the library fills in
+       report write [--cr] [FILE]     the report in the writer's spelling, in lines that end with CR LF or, with --cr, with CR alone
+       report layout                  test: the structs of the header against what the library fills in, and the line ends
        report refuse NUMBER [FILE]    test: a refusal that no file gives (1, 18, 19 or 20), over an accepted report
 
    Without FILE the report stands on standard input. Of a refused report standard error has the words. Status: 0 done, 1 refused, 2 trouble.
@@ -117,7 +117,7 @@ static int ask(uint32_t start, uint32_t round, const char *name)
     return DONE;
 }
 
-static int write_again(const char *name)
+static int write_again(const char *name, bool cr_alone)
 {
     trf_answer answer;
     int status = take(name, &answer);
@@ -125,7 +125,7 @@ static int write_again(const char *name)
         print_refused(stderr, answer.number, answer.line.line, answer.round);
     if (status != DONE)
         return status;
-    trf_written written = trf_write(answer, TRF_LENT(tables), out, sizeof out);
+    trf_written written = trf_write(answer, TRF_LENT(tables), cr_alone, out, sizeof out);
     if (written.number != TRF_ACCEPTED) {
         print_refused(stderr, written.number, written.line.line, written.round);
         return REFUSED;
@@ -163,13 +163,15 @@ static int run(int n, char **words)
         return list_all(n - 2, words + 2);
     if ((n == 4 || n == 5) && strcmp(words[1], "ask") == 0 && is_number(words[2], &first) && is_number(words[3], &second))
         return ask(first, second, words[4]);
+    if ((n == 3 || n == 4) && strcmp(words[1], "write") == 0 && strcmp(words[2], "--cr") == 0)
+        return write_again(words[3], TRF_CR);
     if ((n == 2 || n == 3) && strcmp(words[1], "write") == 0)
-        return write_again(words[2]);
+        return write_again(words[2], TRF_CR_LF);
     if (n == 2 && strcmp(words[1], "layout") == 0)
         return check_layout();
     if ((n == 3 || n == 4) && strcmp(words[1], "refuse") == 0 && is_number(words[2], &first))
         return refuse(first, words[3]);
-    fputs("usage: report list [FILE].. | ask START ROUND [FILE] | write [FILE] | layout | refuse NUMBER [FILE]\n", stderr);
+    fputs("usage: report list [FILE].. | ask START ROUND [FILE] | write [--cr] [FILE] | layout | refuse NUMBER [FILE]\n", stderr);
     return UNUSABLE;
 }
 

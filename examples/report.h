@@ -11,7 +11,7 @@ enum { DONE = 0, REFUSED = 1, FAILED = 1, UNUSABLE = 2 };
 /* A refusal in one line, as the lister prints it; its words go to standard error. */
 void print_refused(FILE *to, uint32_t number, uint32_t line, uint32_t round);
 
-/* Whether the structs of the header have the layout that the library fills in; prints what differs. */
+/* Whether the structs of the header have the layout that the library fills in, and lines end as each call says; prints what differs. */
 int check_layout(void);
 
 /* Brings the library to a refusal that no file gives (1, 18, 19, 20), over an accepted report, and prints it. */

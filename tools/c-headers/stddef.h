@@ -1,4 +1,4 @@
-/* The kit's compiler comes without headers. The four in this folder declare what the programs of this repository use of the C library, for x86-64. */
+/* The kit's compiler comes without headers. The five in this folder declare what the programs of this repository use of the C library, for x86-64. */
 #ifndef STDDEF_H
 #define STDDEF_H
 
