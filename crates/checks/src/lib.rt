@@ -25,7 +25,7 @@ use types::MOST_ROUNDS;
 use types::Place;
 use types::StartNumber;
 
-// Whether two results fit, the winner's first.
+// Whether two results fit, the better one first.
 fn is_pair(a: u8, b: u8) -> bool
     ensures { λ r. ⌜ r ≡ isPair a b ⌝ }
 {
@@ -35,10 +35,12 @@ fn is_pair(a: u8, b: u8) -> bool
         | ((a == b'D') & (b == b'D'))
         | ((a == b'+') & (b == b'-'))
         | ((a == b'-') & (b == b'-'))
+        | ((a == b'0') & (b == b'0'))
+        | ((a == b'=') & (b == b'0'))
 }
 
 // Whether two results are those of one game.
-fn fits(a: u8, b: u8) -> bool
+pub fn fits(a: u8, b: u8) -> bool
     ensures { λ r. ⌜ r ≡ entries.fits a b ⌝ }
 {
     let one = is_pair(a, b);

@@ -1,5 +1,6 @@
 pub mod WrongReaders
 pub mod OwnValues
+pub mod Fitting
 pub mod ReadBack
 pub mod OfReadings
 pub mod OfWritings

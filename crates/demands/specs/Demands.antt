@@ -9,7 +9,7 @@ use Prim.Native.Nat.{ℕ, _≤_, _<_}
 use Prim.Native.Char.{code}
 use lib.ListN.{length, getD, take, drop}
 use Rattle.kit.specs.Ascii.{ascii}
-use Rattle.kit.specs.Lists.{among, flat, onlyOr, Each}
+use Rattle.kit.specs.Lists.{among, isOneOf, flat, onlyOr, Each}
 use Rattle.kit.specs.First.{AllOf, FirstIn}
 use Rattle.types.specs.declared.Answer.{Answer}
 use Rattle.types.specs.declared.Written.{Written}
@@ -22,7 +22,7 @@ use Rattle.law.specs.Accelerations.{accelerationCode}
 use Rattle.law.specs.Players.{playerCode}
 use Rattle.law.specs.Items.{Item}
 use Rattle.law.specs.Tournament.{Tournament, scoringIn, tournamentOf}
-use Rattle.law.specs.Entries.{worth}
+use Rattle.law.specs.Entries.{fits, worth}
 use Rattle.law.specs.Lawful.{Lawful, noAcceleration}
 use Rattle.law.specs.Spelling.{SpellsLine, SpellsFile}
 use Rattle.law.specs.Tables.{Tables, Lent, keptCells, entryCells, enough, enoughLent, contentOf, linesContent, zeros, HoldAll, HoldLent, answerOf}
@@ -72,6 +72,10 @@ pub record Demand-1 : Type 0 where
 abbrev pub NotGiven : ℕ → List Item → Type 0
 NotGiven letter items = among letter (lettersOf (onlyOr [] (flat scoringIn items))) ≡ false
 
+-- ---- all ways in which results fit, the player's own first; the last three by document 02: "0 with 0 now fits, and = with 0 either way round"
+abbrev pub fittingWays : List (List ℕ)
+fittingWays = ascii "10" ∷ ascii "01" ∷ ascii "==" ∷ ascii "WL" ∷ ascii "LW" ∷ ascii "DD" ∷ ascii "+-" ∷ ascii "-+" ∷ ascii "--" ∷ ascii "00" ∷ ascii "=0" ∷ ascii "0=" ∷ []
+
 pub record Demand-2 : Type 0 where
   -- "Reading [..] follow[s] document 01: every column": an accepted file's lines spell items, column by column (`SpellsItem`), and the answer and every cell, line numbers
   -- too, are those of what the items say together
@@ -86,6 +90,8 @@ pub record Demand-2 : Type 0 where
   -- and document 02: "a P or X not given in 162 takes the event's own W or D, given or default"
   pub own-pairing : (items : List Item) → NotGiven (code "P") items → tournamentOf items .scoring .pairing ≡ tournamentOf items .scoring .win
   pub own-unknown : (items : List Item) → NotGiven (code "X") items → tournamentOf items .scoring .unknown ≡ tournamentOf items .scoring .draw
+  -- "Results that fit", by which 14 is given: of all bytes these, and no others
+  pub results-fit : (own theirs : ℕ) → fits own theirs ≡ isOneOf (own ∷ theirs ∷ []) fittingWays
   -- "every refusal with its place": given exactly when it is the first fault
   pub reading-refusals : EveryReading (λ file before a after. (x : Refusal) → (a ≡ refusedAnswer x) ↔ Refused (enoughLent before) file x)
   pub writing-refusals : EveryWriting (λ end a tables before w after. (d : Denial) → (w ≡ writtenAnswer (denialOf d) 0) ↔ FirstIn (WriterDenies end a tables (length before)) writerDenials d)

@@ -7,21 +7,17 @@ use lib.Dec.{eqb}
 use lib.ListN.{length, getD}
 use Rattle.kit.specs.Lists.{among}
 use Rattle.law.specs.Sizes.{mostRounds}
-use Rattle.law.specs.Players.{gameColours, gameResults}
+use Rattle.law.specs.Players.{gameColours}
 use Rattle.law.specs.Entries.{fits, bye-or-game, mutual-pairing, fitting-results}
 use Rattle.law.specs.Tables.{cellOf}
 use Rattle.join.specs.Grid.{someBelow}
 use Rattle.join.specs.Store.{Nine}
 use Rattle.join.specs.Check.{hasUAt, keepsCell}
 
--- two results of one game
-abbrev pub Fits : ℕ → ℕ → Type 0
-Fits a b = (among a gameResults ≡ true) × (fits a b ≡ true)
-
+-- a cell for each byte: what is not 0 in it fits
 abbrev pub Answered : ℕ → ℕ → Type 0
-Answered result answer = (answer ≡ 0 → ⊥) → Fits result answer
+Answered result answer = (answer ≡ 0 → ⊥) → fits result answer ≡ true
 
--- a cell for each byte
 pub record Answers (cells : List ℕ) : Type 0 where
   pub long : length cells ≡ 256
   pub each : (result : ℕ) → result < 256 → Answered result (getD cells result 0)

@@ -7,13 +7,13 @@ ghost use mathlib.Core.List.{List};
 ghost use Prim.Native.Nat.{ℕ, _*_, _≤_, _<_};
 ghost use lib.ListN.{length, getD};
 ghost use Rattle.law.specs.Sizes.{mostPlayers, mostRounds};
-ghost use Rattle.law.specs.Entries.{Law};
+ghost use Rattle.law.specs.Entries.{Law, fits};
 ghost use Rattle.law.specs.Tables.{entryCells};
 ghost use Rattle.join.specs.Grid.{firstFrom};
 ghost use Rattle.join.specs.Check.{pastCell, brokenCell};
 ghost use Rattle.index.specs.Index.{Indexed, IsIndex};
 ghost use Rattle.checks.specs.Laws.{four, Long};
-ghost use Rattle.glances.specs.Glance.{Answers, Fits, Opposite, KeepsEntry, KeepsRow, KeepsRows, Noted, OnceU, BlankRow};
+ghost use Rattle.glances.specs.Glance.{Answers, Opposite, KeepsEntry, KeepsRow, KeepsRows, Noted, OnceU, BlankRow};
 use index::Placed;
 use index::START_CELLS;
 use types::MOST_ROUNDS;
@@ -23,8 +23,7 @@ use types::StartNumber;
 // A cell for each byte.
 const BYTES: usize = 256;
 
-// The result that stands opposite each result of a game, at its byte; 0 at every other. Opposite `-` there may be `-` too. Made once for all entries. Promised:
-// what is not 0 fits; a table of zeros would make every look a no.
+// The result that mostly stands opposite each result of a game, at its byte; 0 at every other. Made once for all entries. Promised: what is not 0 fits.
 fn answer_table() -> [u8; BYTES]
     ensures { λ r. ⌜ Answers r ⌝ }
 {
@@ -40,19 +39,17 @@ fn answer_table() -> [u8; BYTES]
     answers
 }
 
-// Whether two results are those of one game.
+// Whether two results are those of one game: mostly by one look at the table. Those that both lost, that nobody came to, or that a draw was given one side of
+// only, are asked for by all pairs, and are a yes too.
 fn are_one_game(result: u8, theirs: u8, answers: &[u8; BYTES]) -> bool
     requires { ⌜ Answers (now answers) ⌝ }
-    ensures { λ r. ⌜ (r ≡ true → Fits result theirs) ⌝ }
+    ensures { λ r. ⌜ r ≡ fits result theirs ⌝ }
 {
     let answer = answers[result as usize];
-    if answer == 0 {
-        return false;
-    }
-    if theirs == answer {
+    if (answer != 0) & (theirs == answer) {
         return true;
     }
-    (result == b'-') & (theirs == b'-')
+    checks::fits(result, theirs)
 }
 
 // Whether two colours are those of one game.

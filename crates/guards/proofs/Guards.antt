@@ -22,10 +22,10 @@ use Rattle.law.specs.Writing.{writtenLines, written, earnedBefore, acceleration
 use Rattle.law.specs.Calls.{refusedAnswer, writtenAnswer, scoreAnswer}
 use Rattle.law.proofs.RecordsRead.{itemOf}
 use Rattle.law.proofs.Judges.{outcomeOf}
-use Rattle.law.proofs.Rows.{starts, points, ranks, added, first-rounds, last-rounds, first-starts, last-starts, initial-colour, value, as-left, cut-short, cr-lf, cr-alone, Row, refuses, accepts, answers, scores, stores, writes, asks, fitting, spells, spells-nothing, RowHolds, test, Computed}
+use Rattle.law.proofs.Rows.{starts, points, ranks, results, added, first-rounds, last-rounds, first-starts, last-starts, initial-colour, value, as-left, cut-short, cr-lf, cr-alone, Row, refuses, accepts, answers, scores, stores, writes, asks, fitting, spells, spells-nothing, RowHolds, test, Computed}
 use Rattle.law.proofs.Samples.{all-computed}
 use Rattle.law.proofs.Marked.{line, cup, roe, poe, sampleT}
-use Rattle.law.proofs.Layouts.{put, person, keptRow, rowWith, rowOfTexts, crlf-line, withLF, alone, two, twoAt, after, note, fullText, scoring, threePoints, aloneWithU, roeLine, event, eventWritten, highest, accelerated, wrongSum}
+use Rattle.law.proofs.Layouts.{put, person, keptRow, rowWith, rowOfTexts, crlf-line, withLF, alone, two, twoAt, after, note, fullText, scoring, threePoints, aloneWithU, roeLine, event, eventWritten, highest, accelerated, setByArbiter, wrongSum}
 
 -- one line, or a 001 line with one kept text, spells an item or none
 abbrev pub right : String → Row
@@ -112,8 +112,8 @@ guardRows =
     -- every colour and result, capital and small, is a byte of a round
     (spells (rowWith ((92, "0000 w 1  0000 b =  0000 - 0  0000   W  0000   D  0000   L  0000   +  0000   -  0000   H  0000   F  0000   U  0000   Z  0000   w  0000   d  0000   l  0000   h  0000   f  0000   u  0000   z") ∷ [])), refl) ∷
     -- ---- which results fit, from either side
-    (fitting (code "1") (ascii "0") (ascii "1=WDL+-HFUZ"), refl) ∷ (fitting (code "=") (ascii "=") (ascii "10WDL+-HFUZ"), refl) ∷
-    (fitting (code "0") (ascii "1") (ascii "=0WDL+-HFUZ"), refl) ∷ (fitting (code "W") (ascii "L") (ascii "1=0WD+-HFUZ"), refl) ∷
+    (fitting (code "1") (ascii "0") (ascii "1=WDL+-HFUZ"), refl) ∷ (fitting (code "=") (ascii "=0") (ascii "1WDL+-HFUZ"), refl) ∷
+    (fitting (code "0") (ascii "1=0") (ascii "WDL+-HFUZ"), refl) ∷ (fitting (code "W") (ascii "L") (ascii "1=0WD+-HFUZ"), refl) ∷
     (fitting (code "D") (ascii "D") (ascii "1=0WL+-HFUZ"), refl) ∷ (fitting (code "L") (ascii "W") (ascii "1=0DL+-HFUZ"), refl) ∷
     (fitting (code "+") (ascii "-") (ascii "1=0WDL+HFUZ"), refl) ∷ (fitting (code "-") (ascii "+-") (ascii "1=0WDLHFUZ"), refl) ∷
     -- ---- refused answers: 18, with room and without, at any place; tables that are too short: 1, whatever else is wrong
@@ -233,7 +233,15 @@ guardRows =
     (refuses (after (line "250      01.0 001 009 0001 0009" ++ line "250      01.0 004 004 0004 0004")) 17 3 0, refl) ∷
     (refuses (after (line "250      01.0 001 001 0001 0001" ++ (line "250      01.0 002 002 0001 0001" ++ (line "250      01.0 001 001 0001 0001" ++ line "250      01.0 002 002 0001 0001")))) 17 4 0, refl) ∷
     -- ---- text up to 2,048 bytes
-    (refuses fullText 10 0 0, refl) ∷ (refuses (fullText ++ line "112") 9 6 0, refl) ∷
+    (refuses fullText 10 0 0, refl) ∷ (refuses (fullText ++ line "112") 9 6 0, refl) ∷ []
+
+pub guarded : AllOf (λ (c : Computed). RowHolds (c .0)) guardRows
+guarded = all-computed guardRows
+
+-- apart, since one list of all would take more steps than the checker allows a declaration
+unfoldable pub entryRows : List Computed
+unfolding put person alone two twoAt setByArbiter withLF scoring line cup test cells flat top scoringOf shares covers kindOf normal usedRounds roundsOf tournamentOf isBye isGame fits keeps worth earned isPast contentOf answerOf isAgain isTooMany linesOf isFileFault labels writtenLines written earnedBefore accelerationFor refusedAnswer writtenAnswer scoreAnswer itemOf outcomeOf
+entryRows =
     -- ---- a round's entry
     -- byes in every spelling, small letters, an id of 0
     (accepts (cup ++ person "   1" " 1.5" "   1" ((92, "   0 - h     0   F") ∷ (117, "-") ∷ [])) 1 3 0, refl) ∷
@@ -255,8 +263,20 @@ guardRows =
     (refuses (two " 9.0" "0000 - U" " 1.0" "0000 - U") 15 3 1, refl) ∷
     -- not mutual, seen from the higher number
     (refuses (two " 0.0" "0000 - Z" " 1.0" "   1 b 1") 13 3 1, refl) ∷ (refuses (two " 0.0" "   2 w +" " 0.0" "   1 b +") 14 2 1, refl) ∷
-    (refuses (two " 0.0" "   2 w 1" " 0.0" "   1 b L") 14 2 1, refl) ∷ (refuses (two " 0.0" "   2 w 0" " 0.0" "   1 b 0") 14 2 1, refl) ∷
-    (refuses (two " 0.0" "   2 w D" " 0.0" "   1 b =") 14 2 1, refl) ∷
+    (refuses (two " 0.0" "   2 w 1" " 0.0" "   1 b L") 14 2 1, refl) ∷ (refuses (two " 0.0" "   2 w D" " 0.0" "   1 b =") 14 2 1, refl) ∷
+    -- set by the arbiter: lost by both, and drawn by one and lost by the other, either way round, with what each earns
+    (accepts (two " 0.0" "   2 b 0" " 0.0" "   1 w 0") 2 1 0, refl) ∷ (accepts (two " 0.5" "   2 w =" " 0.0" "   1 b 0") 2 1 0, refl) ∷ (accepts (two " 0.0" "   2 w 0" " 0.5" "   1 b =") 2 1 0, refl) ∷
+    (refuses (two " 1.0" "   2 w 0" " 0.0" "   1 b 0") 16 2 0, refl) ∷ (refuses (two " 0.5" "   2 w =" " 0.5" "   1 b 0") 16 3 0, refl) ∷ (refuses (two " 0.0" "   2 w 0" " 1.0" "   1 b =") 16 3 0, refl) ∷
+    (accepts (line scoring ++ two " 0.2" "   2 b 0" " 0.2" "   1 w 0") 2 1 0, refl) ∷ (accepts (line scoring ++ two " 1.0" "   2 b =" " 0.2" "   1 w 0") 2 1 0, refl) ∷ (accepts (line scoring ++ two " 0.2" "   2 w 0" " 1.0" "   1 b =") 2 1 0, refl) ∷
+    -- nothing else: not of games of less than a move or not played, and no other of games that were played
+    (refuses (two " 0.0" "   2 w L" " 0.0" "   1 b L") 14 2 1, refl) ∷ (refuses (two " 0.5" "   2 w D" " 0.0" "   1 b L") 14 2 1, refl) ∷ (refuses (two " 0.0" "   2 w L" " 0.5" "   1 b D") 14 2 1, refl) ∷
+    (refuses (two " 0.5" "   2 w =" " 0.0" "   1 b L") 14 2 1, refl) ∷ (refuses (two " 0.0" "   2 w 0" " 0.0" "   1 b L") 14 2 1, refl) ∷ (refuses (two " 0.5" "   2 w =" " 0.0" "   1 b -") 14 2 1, refl) ∷
+    (refuses (two " 1.0" "   2 w 1" " 1.0" "   1 b 1") 14 2 1, refl) ∷ (refuses (two " 1.0" "   2 w +" " 0.0" "   1 b 0") 14 2 1, refl) ∷ (refuses (two " 0.5" "   2 w D" " 0.0" "   1 b 0") 14 2 1, refl) ∷
+    (refuses (two " 1.0" "   2 w 1" " 0.5" "   1 b =") 14 2 1, refl) ∷ (refuses (two " 0.0" "   2 w 0" " 0.0" "   1 b -") 14 2 1, refl) ∷
+    -- such games are held, written and asked for as they stand
+    (stores setByArbiter ((results, 0, code "0") ∷ (results, 1, code "=") ∷ (results, 2, code "=") ∷ (results, 20, code "0") ∷ (results, 21, code "0") ∷ (results, 22, code "0") ∷ (points, 0, 10) ∷ (points, 1, 0) ∷ []), refl) ∷
+    (writes as-left setByArbiter ((cr-alone, 700, 0, setByArbiter) ∷ (cr-lf, 700, 0, withLF setByArbiter) ∷ []), refl) ∷
+    (asks as-left setByArbiter ((0, 2, 0, 0, 0) ∷ (0, 3, 0, 5, 0) ∷ (0, 4, 0, 10, 0) ∷ (1, 4, 0, 0, 0) ∷ []), refl) ∷
     -- the first player with a fault, then the lowest round
     (refuses (cup ++ (person "   1" " 0.0" "   1" ((92, "0000 - U  0000 - U") ∷ []) ++ (person "   2" " 0.0" "   2" ((102, "0000 - U") ∷ []) ++ person "   3" " 0.0" "   3" ((92, "0000 - U") ∷ [])))) 15 3 2, refl) ∷
     (refuses (cup ++ person "   1" " 0.0" "   1" ((92, "0000 - Z     1 w 1     1 w 1") ∷ [])) 12 2 2, refl) ∷
@@ -273,5 +293,5 @@ guardRows =
     (accepts (cup ++ (person "   1" " 0.0" "   1" ((92, "0000 - Z") ∷ []) ++ person "   2" " 0.0" "   2" ((112, "0000") ∷ []))) 2 3 0, refl) ∷
     (accepts (cup ++ (person "   1" " 0.0" "   1" ((187, "-") ∷ []) ++ person "   2" " 0.0" "   2" ((92, "0000 - Z") ∷ []))) 2 10 0, refl) ∷ []
 
-pub guarded : AllOf (λ (c : Computed). RowHolds (c .0)) guardRows
-guarded = all-computed guardRows
+pub entries-guarded : AllOf (λ (c : Computed). RowHolds (c .0)) entryRows
+entries-guarded = all-computed entryRows

@@ -96,6 +96,12 @@ accelerated =
     cup ++ (line "142 4" ++ (line "250      12.5 002 003 0005 0009" ++
     (person "   4" " 0.0" "   1" [] ++ (person "   5" " 0.0" "   2" [] ++ (person "   9" " 0.0" "   3" [] ++ person "  10" " 0.0" "   4" [])))))
 
+-- as the writer puts it: three games set by the arbiter, lost by both, drawn by White alone and by Black alone; then a round without games
+unfoldable pub setByArbiter : List ℕ
+setByArbiter =
+    cup ++ (line "142 4" ++ (line "162  W 1.0    D 0.5    L 0.0    A 0.0    P 1.0    X 0.5" ++
+    (person "   1" " 1.0" "   1" ((92, "   2 w 0     2 w =     2 b =  0000 - Z") ∷ []) ++ person "   2" " 0.0" "   2" ((92, "   1 b 0     1 b 0     1 w 0  0000 - Z") ∷ []))))
+
 -- refused: a wrong sum
 unfoldable pub wrongSum : List ℕ
 wrongSum = two " 0.5" "   2 w 1" " 0.0" "   1 b 0"

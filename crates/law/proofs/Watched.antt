@@ -55,6 +55,8 @@ watchedRows =
     (refuses (fullText ++ cup) 8 6 0, refl) ∷
     (refuses (two " 1.0" "   2 b 1" " 0.0" "   1 b 0") 13 2 1, refl) ∷
     (refuses (two " 0.0" "   2 w  " " 0.0" "   1 b  ") 12 2 1, refl) ∷
+    -- set by the arbiter: lost by both; lost by the first and drawn by the other
+    (accepts (two " 0.0" "   2 w 0" " 0.0" "   1 b 0") 2 1 0, refl) ∷ (accepts (two " 0.0" "   2 b 0" " 0.5" "   1 w =") 2 1 0, refl) ∷
     (stores (two " 1.0" "   2 w +" " 0.0" "   1 b -") ((results, 0, code "+") ∷ (results, 20, code "-") ∷ []), refl) ∷ (
       writes as-left (two " 1.0" "   2 w +" " 0.0" "   1 b -")
           ((cr-alone, 300, 0, cup ++ (line "142 1" ++ (line "162  W 1.0    D 0.5    L 0.0    A 0.0    P 1.0    X 0.5" ++ (person "   1" " 1.0" "   1" ((92, "   2 w +") ∷ []) ++ person "   2" " 0.0" "   2" ((92, "   1 b -") ∷ []))))) ∷ []),

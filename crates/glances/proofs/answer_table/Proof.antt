@@ -58,7 +58,7 @@ array-write-answers-8 c = search needs
 returns : tie.Need-returns
 unfolding fits
 returns c =
-    answers-more (answers-more (answers-more (answers-more (answers-more (answers-more (answers-more (answers-more answers-none 49 48 (omega arith) (refl, refl)) 48 49 (omega arith) (refl, refl)) 61 61 (omega arith) (refl, refl)) 87 76 (omega arith) (refl, refl)) 76 87 (omega arith) (refl, refl)) 68 68 (omega arith) (refl, refl)) 43 45 (omega arith) (refl, refl)) 45 43 (omega arith) (refl, refl)
+    answers-more (answers-more (answers-more (answers-more (answers-more (answers-more (answers-more (answers-more answers-none 49 48 (omega arith) refl) 48 49 (omega arith) refl) 61 61 (omega arith) refl) 87 76 (omega arith) refl) 76 87 (omega arith) refl) 68 68 (omega arith) refl) 43 45 (omega arith) refl) 45 43 (omega arith) refl
 
 pub answer-table-spec : {M : Type 1} → statement M
 answer-table-spec =

@@ -1,4 +1,5 @@
 -- `glances::keeps_entry` meets its contract. Assumes nothing.
+use mathlib.Core.Path.{sym, _∙_}
 use native.Mathlib.Omega.{arith}
 use borrow.Author.Needs.{needs}
 use borrow.Author.Tests.{not-false}
@@ -76,7 +77,7 @@ returns-5 : tie.Need-returns-5
 returns-5 c =
     λ t starts n s x.
     game-keeps n starts _ _ _ _ _ (c .before .before .before .before .before .before .before .before .before .before .before .before .before .before .before .before .before .before .before .before .cell-of .ensures .0) (c .before .before .before .before .before .before .before .before .before .before .before .before .before .before .before .before .place-of .ensures starts n (x .says) (x .low)) (c .before .before .before .before .before .before .before .before .before .before .before .before .before .before .opponent .given .1) (c .before .before .before .before .before .before .before .before .before .cell-of2 .ensures .0) s
-    (c .before .before .before .before .before .before .before .before .before .before .if1 .left) (c .before .before .before .before .before .if2 .left) (c .before .before .before .are-opposite .ensures (not-false _ (c .before .before .if3 .left))) (c .are-one-game .ensures t)
+    (c .before .before .before .before .before .before .before .before .before .before .if1 .left) (c .before .before .before .before .before .if2 .left) (c .before .before .before .are-opposite .ensures (not-false _ (c .before .before .if3 .left))) (sym (c .are-one-game .ensures) ∙ t)
 
 pub keeps-entry-spec : {M : Type 1} → statement M
 keeps-entry-spec =
