@@ -4,6 +4,7 @@ MOST_FILE = 65_535
 MOST_TEXT = 2_048
 WORTH = {"1": 10, "0": 0, "=": 5, "W": 10, "L": 0, "D": 5, "+": 10, "-": 0, "H": 5, "F": 10, "U": 10, "Z": 0}
 GAMES = ["10", "01", "==", "10", "01", "WL", "LW", "DD", "+-", "10", "=="]
+SET_BY_ARBITER = ["00", "=0", "0=", "=0", "0="]
 TITLES = ["GM ", "IM ", "WGM", "FM ", "WIM", "CM ", "WFM", "WCM", "   "]
 
 
@@ -15,8 +16,9 @@ def pairings(players, rounds):
         circle = [circle[0], circle[-1]] + circle[1:-1]
 
 
-def entries(players, rounds, starts, byes):
-    """Per player the entries of its rounds: opponent, colour, result. Who is left over has U. With byes, one pair of each round has two of them."""
+def entries(players, rounds, starts, byes, games):
+    """Per player the entries of its rounds: opponent, colour, result. Who is left over has U. With byes, one pair of each round has two of them.
+    The games end as the list says, in turn."""
     table = [[(0, "-", "U")] * rounds for _ in range(players)]
     for r, pairs in enumerate(pairings(players, rounds)):
         for i, (one, other) in enumerate(pairs):
@@ -24,7 +26,7 @@ def entries(players, rounds, starts, byes):
                 table[one][r], table[other][r] = (0, "-", "U"), (0, "-", "HFZ"[r % 3])
                 continue
             white, black = (one, other) if (r + i) % 2 else (other, one)
-            results = GAMES[(7 * r + 3 * i) % len(GAMES)]
+            results = games[(7 * r + 3 * i) % len(games)]
             table[white][r], table[black][r] = (starts[black], "w", results[0]), (starts[white], "b", results[1])
     return table
 
@@ -52,9 +54,9 @@ def text_of(size):
     return lines
 
 
-def report(players, rounds, accelerations=0, text="012 Cup\r", starts=None, byes=False, wrong_last=False):
+def report(players, rounds, accelerations=0, text="012 Cup\r", starts=None, byes=False, wrong_last=False, games=GAMES):
     starts = starts or list(range(1, players + 1))
-    table = entries(players, rounds, starts, byes)
+    table = entries(players, rounds, starts, byes, games)
     lines = [text, f"142 {rounds}\r", "152 W\r", "162  W 1.0    D 0.5    L 0.0    A 0.0    P 1.0    X 0.5\r"]
     lines += [f"250      01.0 {i % 20 + 1:03d} {i % 20 + 1:03d} {1 + 100 * (i // 20):04d} {100 + 100 * (i // 20):04d}\r" for i in range(accelerations)]
     lines += [player_line(starts[p], p, table[p], 1 if wrong_last and p == players - 1 else 0) for p in range(players)]
@@ -79,6 +81,7 @@ def measured():
         ("largest, start numbers from 9999 down", largest(starts=list(range(9999, 9799, -1))), None),
         ("largest, text in 511 lines", report(200, 20, 32, "012 xyz\r" + "112\r" * 510), None),
         ("largest, refused at the last check (16 at the last player)", largest(wrong_last=True), largest()),
+        ("largest, every game set by the arbiter (0 with 0, = with 0)", largest(games=SET_BY_ARBITER), None),
         ("65,535 bytes of CR", filled(b"\r"), None),
         ("65,535 bytes of comments", filled(b"###\r"), None),
         ("65,535 bytes of long comments", filled(b"###" + b"x" * 509 + b"\r"), None),

@@ -37,24 +37,28 @@ static const uint32_t default_values[SLOTS] = {10, 5, 0, 0, 10, 5};
 typedef struct {
     uint8_t letter; /* as the tables hold it */
     uint8_t kind;
-    uint8_t worth;   /* the value that it earns */
-    uint8_t fits[2]; /* what the opponent of a game may have */
+    uint8_t worth; /* the value that it earns */
 } code;
 
 static const code codes[256] = {
-    [' '] = {'Z', BYE, ABSENT, {0, 0}},
-    ['H'] = {'H', BYE, DRAW, {0, 0}},        ['h'] = {'H', BYE, DRAW, {0, 0}},
-    ['F'] = {'F', BYE, WIN, {0, 0}},         ['f'] = {'F', BYE, WIN, {0, 0}},
-    ['U'] = {'U', BYE, PAIRING_BYE, {0, 0}}, ['u'] = {'U', BYE, PAIRING_BYE, {0, 0}},
-    ['Z'] = {'Z', BYE, ABSENT, {0, 0}},      ['z'] = {'Z', BYE, ABSENT, {0, 0}},
-    ['1'] = {'1', GAME, WIN, {'0', '0'}},
-    ['='] = {'=', GAME, DRAW, {'=', '='}},
-    ['0'] = {'0', GAME, LOSS, {'1', '1'}},
-    ['W'] = {'W', GAME, WIN, {'L', 'L'}},    ['w'] = {'W', GAME, WIN, {'L', 'L'}},
-    ['D'] = {'D', GAME, DRAW, {'D', 'D'}},   ['d'] = {'D', GAME, DRAW, {'D', 'D'}},
-    ['L'] = {'L', GAME, LOSS, {'W', 'W'}},   ['l'] = {'L', GAME, LOSS, {'W', 'W'}},
-    ['+'] = {'+', GAME, WIN, {'-', '-'}},
-    ['-'] = {'-', GAME, ABSENT, {'+', '-'}},
+    [' '] = {'Z', BYE, ABSENT},
+    ['H'] = {'H', BYE, DRAW},        ['h'] = {'H', BYE, DRAW},
+    ['F'] = {'F', BYE, WIN},         ['f'] = {'F', BYE, WIN},
+    ['U'] = {'U', BYE, PAIRING_BYE}, ['u'] = {'U', BYE, PAIRING_BYE},
+    ['Z'] = {'Z', BYE, ABSENT},      ['z'] = {'Z', BYE, ABSENT},
+    ['1'] = {'1', GAME, WIN},
+    ['='] = {'=', GAME, DRAW},
+    ['0'] = {'0', GAME, LOSS},
+    ['W'] = {'W', GAME, WIN},        ['w'] = {'W', GAME, WIN},
+    ['D'] = {'D', GAME, DRAW},       ['d'] = {'D', GAME, DRAW},
+    ['L'] = {'L', GAME, LOSS},       ['l'] = {'L', GAME, LOSS},
+    ['+'] = {'+', GAME, WIN},
+    ['-'] = {'-', GAME, ABSENT},
+};
+
+/* By a player's result in a game: what the opponent may have, then 0, which no entry has. */
+static const uint8_t fits[256][4] = {
+    ['1'] = "0", ['='] = "=0", ['0'] = "1=0", ['W'] = "L", ['D'] = "D", ['L'] = "W", ['+'] = "-", ['-'] = "+-",
 };
 
 /* ---- bytes and fields ---- */
@@ -242,9 +246,9 @@ static bool is_mutual(const tournament *t, uint32_t place, uint32_t round, size_
 
 static bool results_fit(const tournament *t, uint32_t round, size_t cell)
 {
-    const code *own = &codes[t->results[cell]];
+    const uint8_t *fit = fits[t->results[cell]];
     uint8_t other = t->results[opponents_cell(t, t->opponents[cell], round)];
-    return other == own->fits[0] || other == own->fits[1];
+    return other == fit[0] || other == fit[1] || other == fit[2];
 }
 
 static fault no_fault(void) { return (fault){0, 0, 0}; }

@@ -283,7 +283,7 @@ static void refused(int pattern)
 {
     static const uint32_t none[6] = {0};
     uint8_t *last = file + FILE_BYTES - 2 * 120 - 2;
-    *last = '=';
+    *last = 'L';
     answers(pattern, TRF_RESULTS, 308, 3, 0, 0, 0, 0, 0, none);
     uint64_t used = 0;
     for (size_t i = 0; i < sizeof tables; i++)
@@ -304,7 +304,7 @@ static void words(void)
             parts[at] = 10 * parts[at] + (uint32_t)(*c - '0');
     }
     same("the version's number", TRF_VERSION_NUMBER, 10000 * parts[0] + 100 * parts[1] + parts[2]);
-    same("the version", TRF_VERSION_NUMBER, 20000);
+    same("the version", TRF_VERSION_NUMBER, 20100);
     same("an acceptance in words", (uint64_t)strcmp(trf_words(TRF_ACCEPTED), "accepted"), 0);
     for (uint32_t number = 1; number <= TRF_NO_PLACE; number++)
         same("a refusal without words", strcmp(trf_words(number), trf_words(TRF_NO_PLACE + 1)) == 0, 0);
