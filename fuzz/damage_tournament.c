@@ -7,14 +7,6 @@ static size_t any_entry(chance *c, const reading *r) { return entry_cell(any_pla
 
 static const char RESULTS_OF_ALL[] = "1=0WDL+-HFUZ";
 
-/* The place of the player who has a start number; the number of players where nobody has it. */
-static uint32_t place_of(const reading *r, uint32_t start)
-{
-    uint32_t place = 0;
-    while (place < r->answer.players && r->t.starts[place] != start) place++;
-    return place;
-}
-
 static void change_result(chance *c, tournament *to) { to->r.t.results[any_entry(c, &to->r)] = byte_of(c, RESULTS_OF_ALL); }
 
 static void change_colour(chance *c, tournament *to) { to->r.t.colours[any_entry(c, &to->r)] = byte_of(c, "wb- "); }
@@ -31,16 +23,18 @@ static void change_opponent(chance *c, tournament *to)
     }
 }
 
-/* Other results on both sides of a game, which may fit each other or not. */
+/* Other results on both sides of a game: at times two that fit each other, else any two. */
 static void change_game(chance *c, tournament *to)
 {
-    static const char PAIRS[][3] = {"10", "01", "==", "WL", "LW", "DD", "+-", "-+", "--", "11", "00", "++", "1L", "W0", "=D", "D=", "1-", "+0"};
+    static const char OF_GAMES[] = "1=0WDL+-";
     reading *r = &to->r;
-    const char *pair = PAIRS[below(c, COUNT_OF(PAIRS))];
+    const char *fit = FITS[below(c, FITTING)];
+    uint8_t own = (uint8_t)fit[0], others = (uint8_t)fit[1];
+    if (!one_in(c, 3)) own = byte_of(c, OF_GAMES), others = byte_of(c, OF_GAMES);
     uint32_t player = any_player(c, r), round = any_round(c, r), other = place_of(r, r->t.opponents[entry_cell(player, round)]);
     if (other == r->answer.players) return;
-    r->t.results[entry_cell(player, round)] = (uint8_t)pair[0];
-    r->t.results[entry_cell(other, round)] = (uint8_t)pair[1];
+    r->t.results[entry_cell(player, round)] = own;
+    r->t.results[entry_cell(other, round)] = others;
 }
 
 /* Two players change entries, so that each may stand against a third who names somebody else. */

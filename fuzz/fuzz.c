@@ -31,6 +31,7 @@ typedef struct {
 
 static writing written[2];
 static size_t longest[2];
+static uint64_t readings_with[FITTING]; /* by FITS: the lawful readings that have such a game, the result of the earlier player in the file first */
 
 enum { BYTES_AT_RANDOM, A_VECTOR, A_DAMAGED_VECTOR, A_TOURNAMENT, A_DAMAGED_TOURNAMENT, KINDS };
 static const char *const KIND[KINDS] = {"bytes at random", "a vector", "a damaged vector", "a tournament", "a damaged tournament"};
@@ -238,6 +239,32 @@ static void law_of_round_trip(chance *c, reading *r, bool cr_alone)
     law_of_room(c, &again, &lent, cr_alone, w->answer.length);
 }
 
+/* The place of two results in FITS; FITTING where they do not fit. */
+static int fit_of(uint8_t one, uint8_t other)
+{
+    int fit = 0;
+    while (fit < FITTING && (FITS[fit][0] != one || FITS[fit][1] != other)) fit++;
+    return fit;
+}
+
+/* "Results that fit", as documents 01 and 02 list them. */
+static void law_of_results(const reading *r)
+{
+    uint8_t is_there[FITTING] = {0};
+    now.step = "write, results that fit";
+    for (uint32_t place = 0; place < r->answer.players; place++)
+        for (uint32_t round = 0; round < r->answer.rounds; round++) {
+            uint32_t opponent = r->t.opponents[entry_cell(place, round)], other = place_of(r, opponent);
+            if (opponent == 0 || other <= place) continue;
+            if (other == r->answer.players) disagree("place %u, round %u: nobody is %u", place, round + 1, opponent);
+            uint8_t results[2] = {r->t.results[entry_cell(place, round)], r->t.results[entry_cell(other, round)]};
+            int fit = fit_of(results[0], results[1]);
+            if (fit == FITTING) disagree("places %u and %u, round %u: byte %u against %u", place, other, round + 1, results[0], results[1]);
+            is_there[fit] = 1;
+        }
+    for (int i = 0; i < FITTING; i++) readings_with[i] += is_there[i];
+}
+
 /* A reading to writer and question, with both line ends and all kinds of room. Hands back whether it is an accepted file's. */
 static int try_reading(chance *c, reading *r)
 {
@@ -248,6 +275,7 @@ static int try_reading(chance *c, reading *r)
     law_of_line_ends();
     int is_accepted = written[first].answer.number == 0;
     if (is_accepted) {
+        law_of_results(r);
         law_of_round_trip(c, r, first);
         law_of_round_trip(c, r, !first);
     }
@@ -320,7 +348,13 @@ static void print_counts(void)
     }
 }
 
-/* Whether every answer that a call can give came up often enough. */
+static void print_readings_with(void)
+{
+    printf("lawful readings with a game of these results, the earlier player's first\n");
+    for (int i = 0; i < FITTING; i++) printf("%6s %12lu\n", FITS[i], (unsigned long)readings_with[i]);
+}
+
+/* Whether every answer that a call can give, and every two results that fit, came up often enough. */
 static int reached_all(uint64_t least)
 {
     int all = 1;
@@ -329,6 +363,7 @@ static int reached_all(uint64_t least)
             if (!is_due(call, number) && counts[call][number] > 0) disagree("number %d is not one of this call", number);
             all &= !is_due(call, number) || counts[call][number] >= least;
         }
+    for (int i = 0; i < FITTING; i++) all &= readings_with[i] >= least;
     return all;
 }
 
@@ -372,10 +407,11 @@ int main(int words, char **word)
     printf("seed %lu, %lu inputs from %lu on, %lu vectors\n", (unsigned long)o.seed, (unsigned long)done, (unsigned long)o.first, (unsigned long)vectors_read);
     for (int kind = 0; kind < KINDS; kind++) printf("%12lu %s\n", (unsigned long)kinds[kind], KIND[kind]);
     print_counts();
+    print_readings_with();
     printf("longest report written: %lu bytes with CR LF, %lu with CR alone\n", (unsigned long)longest[TRF_CR_LF], (unsigned long)longest[TRF_CR]);
     printf("%lu inputs in %.1f seconds, %.0f a second\n", (unsigned long)done, taken, (double)done / taken);
     if (!reached_all(o.least)) {
-        printf("some answer came up fewer than %lu times\n", (unsigned long)o.least);
+        printf("some answer, or two results that fit, came up fewer than %lu times\n", (unsigned long)o.least);
         return 1;
     }
     printf("no disagreement\n");

@@ -66,6 +66,13 @@ int listed_difference(const tables *one, const tables *other, int tables_looked_
     return 0;
 }
 
+uint32_t place_of(const reading *r, uint32_t start)
+{
+    uint32_t place = 0;
+    while (place < r->answer.players && r->t.starts[place] != start) place++;
+    return place;
+}
+
 uint32_t worth(const trf_answer *answer, uint8_t result)
 {
     switch (result) {

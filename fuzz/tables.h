@@ -54,6 +54,8 @@ void clear_listed(tables *t);
 size_t used_cells(const reading *r, int which);
 /* The first cell that differs, by table and cell, or 0 where all listed cells of the first few tables are equal. */
 int listed_difference(const tables *one, const tables *other, int tables_looked_at, int *which, size_t *cell);
+/* The place of the player who has a start number; the number of players where nobody has it. */
+uint32_t place_of(const reading *r, uint32_t start);
 /* The tenths that a result earns. */
 uint32_t worth(const trf_answer *answer, uint8_t result);
 uint32_t earned(const reading *r, uint32_t player, uint32_t rounds);

@@ -3,6 +3,7 @@
 const uint32_t DEFAULT_VALUES[6] = {10, 5, 0, 0, 10, 5};
 const char *const TEXT_CODES[16] = {"012", "022", "032", "042", "052", "062", "072", "092",
                                     "102", "122", "132", "192", "202", "212", "222", "112"};
+const char FITS[FITTING][3] = {"10", "01", "==", "=0", "0=", "00", "WL", "LW", "DD", "+-", "-+", "--"};
 enum { ONCE_CODES = 14 };       /* TEXT_CODES 1 to 14 */
 enum { MOST_TEXT_LINES = 511 }; /* 012 and three bytes, 510 times a bare 112 */
 
@@ -102,8 +103,7 @@ static void put_entry(reading *r, uint32_t player, uint32_t round, uint32_t oppo
 
 static void draw_game(chance *c, reading *r, uint32_t one, uint32_t other, uint32_t round)
 {
-    static const char FITS[][3] = {"10", "01", "==", "WL", "LW", "DD", "+-", "-+", "--"};
-    const char *fit = FITS[below(c, COUNT_OF(FITS))];
+    const char *fit = FITS[below(c, FITTING)];
     int white = one_in(c, 2);
     put_entry(r, one, round, r->t.starts[other], white ? 'w' : 'b', (uint8_t)fit[0]);
     put_entry(r, other, round, r->t.starts[one], white ? 'b' : 'w', (uint8_t)fit[1]);
