@@ -620,12 +620,23 @@ class Rows:
     def __init__(self):
         text = open(os.path.join(ROOT, "crates/guards/proofs/Guards.antt")).read()
         text = text.replace("Rattle.law.specs.", "Rattle.law.specs.").replace("Rattle.law.proofs.", "Rattle.law.proofs.")
-        at, end = text.index("guardRows =\n") + len("guardRows =\n"), text.index(" ∷ []\n\npub guarded")
-        self.head, self.tail = text[:at], text[end:]
-        self.sections = dict(re.findall(r"(?ms)^    -- ---- (.*?)\n(.*?)(?: ∷)?\s*(?=^    -- ---- |\Z)", text[at:end]))
+        lists = re.findall(r"(?ms)^unfoldable pub (\w+) : List Computed\n(unfolding [^\n]*\n)\1 =\n(.*?) ∷ \[\]$", text)
+        self.head = text[:text.index("unfoldable pub %s" % lists[0][0])]
+        # by its title a section's rows, and what computes them
+        self.sections, self.unfolding = {}, {}
+        for name, unfolding, body in lists:
+            for title, rows in re.findall(r"(?ms)^    -- ---- (.*?)\n(.*?)(?: ∷)?\s*(?=^    -- ---- |\Z)", body):
+                self.sections[title], self.unfolding[title] = rows, unfolding
         dear = [t for t in self.sections if t.startswith(self.DEAR)]
-        self.parts = {"GuardsCheap": [t for t in self.sections if t not in dear], "GuardsDear": dear}
+        self.parts = {"GuardsCheap": [t for t in self.sections if t not in dear]}
+        self.parts.update(("GuardsDear%d" % i, [t]) for i, t in enumerate(dear, 1))
         self.modules = "".join(l for l in open(os.path.join(ROOT, "crates/law/proofs/Lib.antt")) if LEFT_OUT not in l)
+
+    def text(self, titles):
+        """A module of these sections, which stand in one list."""
+        rows = " ∷\n".join(self.sections[t] for t in titles)
+        return (self.head + "unfoldable pub guardRows : List Computed\n" + self.unfolding[titles[0]] + "guardRows =\n" + rows
+                + " ∷ []\n\npub guarded : AllOf (λ (c : Computed). RowHolds (c .0)) guardRows\nguarded = all-computed guardRows\n")
 
     def write(self, room, parts):
         """Modules and the sections in each; the first row that fails ends its module."""
@@ -633,14 +644,14 @@ class Rows:
         for module in ("GuardsSeen", *self.parts):
             path = os.path.join(proofs, module + ".antt")
             if module in parts:
-                open(path, "w").write(self.head + " ∷\n".join(self.sections[t] for t in parts[module]) + self.tail)
+                open(path, "w").write(self.text(parts[module]))
             elif os.path.exists(path):
                 os.remove(path)
         open(os.path.join(proofs, "Lib.antt"), "w").write(self.modules + "".join("pub mod %s\n" % m for m in parts))
 
     def section(self, titles, line):
         """In which of a module's sections a line stands."""
-        at = self.head.count("\n")
+        at = self.head.count("\n") + 3
         for t in titles:
             at += self.sections[t].count("\n") + 1
             if line <= at:
