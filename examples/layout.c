@@ -39,7 +39,7 @@ enum { FILE_BYTES = EMPTY_LINES + sizeof report - 1 };
 
 static trf_tables tables;
 static uint8_t file[FILE_BYTES];
-static uint8_t out[TRF_MOST_WRITTEN + 8]; /* the longest report and some bytes after it */
+static uint8_t out[65536 + 8]; /* the longest report and many bytes after it, more than 65,535 in all */
 static int failures;
 
 static void same(const char *what, uint64_t got, uint64_t wanted)
@@ -192,7 +192,7 @@ static uint64_t changed_from(size_t first, int pattern)
     return count;
 }
 
-/* One byte less than the room that a report takes, and exactly that room. */
+/* One byte less than the room that a report takes, exactly that room, and more room than any report takes or a file has. */
 static void fits(trf_answer answer, int pattern, bool cr_alone, size_t length)
 {
     memset(out, pattern, sizeof out);
@@ -200,6 +200,8 @@ static void fits(trf_answer answer, int pattern, bool cr_alone, size_t length)
     same("bytes of the output that a refusal changes", changed_from(0, pattern), 0);
     writes(answer, pattern, cr_alone, length, TRF_ACCEPTED, length);
     same("bytes of the output that change past the report", changed_from(length, pattern), 0);
+    writes(answer, pattern, cr_alone, sizeof out, TRF_ACCEPTED, length);
+    same("bytes of the output that change past the report, though there is room", changed_from(length, pattern), 0);
 }
 
 /* Whether the output is the report with an LF after each CR. */

@@ -104,8 +104,7 @@ module _ (e : Terminator) (text : List ℕ) (n at : ℕ) (x : List ℕ) where
   pub relined-next : {y z : List ℕ} {next next′ i : ℕ} → Relined e text n at x y next i → i < n → n ≤ length text
       → Puts (keptText e (getD text i 0)) (length (keptText e (getD text i 0))) next y z next′ → Relined e text n at x z next′ (i + 1)
   relined-next {y} {z} {next} {next′} {i} h l m p =
-      let g = one-more e text i (omega arith) in
-      record { upto = omega arith; put = puts-as (sym g) (sym (ap length g ∙ length-append (relined e (take i text)) (keptText e (getD text i 0)))) refl (puts-then (h .put) p) }
+      record { upto = omega arith; put = puts-as (sym (one-more e text i (omega arith))) (sym (one-wider e text i (omega arith))) refl (puts-then (h .put) p) }
 
   pub relined-all : {y : List ℕ} {next i : ℕ} → Relined e text n at x y next i → n ≤ i → Puts (relined e (take n text)) (length (relined e (take n text))) at x y next
   relined-all {y} {next} {i} h l = let u = h .upto in let k : i ≡ n = omega arith in puts-as (ap (λ (j : ℕ). relined e (take j text)) k) (ap (λ (j : ℕ). length (relined e (take j text))) k) refl (h .put)

@@ -40,9 +40,9 @@ pub unmapped : {A B : Type 0} (f : A → B) (l : List A) (n : ℕ) → length (m
 unmapped f l n e = sym (length-map l f) ∙ e
 
 -- what has room for the longest file with CR LF has room for either
-pub either-fits : (cr-alone : Bool) {n : ℕ} → n ≡ longest crlf → longest (endOf cr-alone) ≤ n
-either-fits false e = omega arith
-either-fits true e = omega arith
+pub either-fits : (cr-alone : Bool) {n : ℕ} → longest crlf ≤ n → longest (endOf cr-alone) ≤ n
+either-fits false l = l
+either-fits true l = omega arith
 
 -- the tables are lent with the very records that the reading answers, so that what it fills in of them changes none
 pub core-rewrites : {end : End} {file : List ℕ} {b : Nine} {core : CoreAnswer} {x : Nine} {before : List ℕ} {w : Written} {after : List ℕ}

@@ -65,7 +65,7 @@ fn kept_wide(c: u8, end: Terminator) -> u16
     1
 }
 
-// How many bytes the first n of the kept text are written in. Their number fits in sixteen bits, of which the compiler adds eight at a time.
+// How many bytes the first n of the kept text are written in. Added up in sixteen bits, so that the compiler takes eight bytes at a time.
 fn text_wide(text: &[u8], n: usize, end: Terminator) -> usize
     requires { ⌜ (n ≤ mostText) × (n ≤ length (now text)) ⌝ }
     ensures { λ r. ⌜ (r ≡ length (relined end (take n (now (text .entry))))) × (r ≤ mostText + mostText) ⌝ }

@@ -1,33 +1,34 @@
 -- `longest` is reached: there is a lawful tournament, with as much of everything as fits, whose written file has so many bytes. Assumes nothing.
-use mathlib.Core.Path.{_≡_, refl, sym, ap, _∙_}
+use mathlib.Core.Path.{_≡_, refl, ap, _∙_}
 use mathlib.Core.Bool.{Bool, true, false, not}
 use mathlib.Core.Option.{none}
-use mathlib.Core.List.{List, [], _∷_, _++_, map, append-nil}
+use mathlib.Core.List.{List, [], _∷_, _++_, map}
 use Prim.Native.Nat.{ℕ, zero, suc, _+_, _-_, _≤_, _<_}
 use Prim.Native.Char.{code}
 use native.Mathlib.Omega.{arith}
 use lib.ListN.{length, replicate, getD-replicate}
 use borrow.Author.Tests.{not-true}
 use Rattle.kit.specs.Ascii.{ascii}
-use Rattle.kit.specs.Lists.{all, from, flat, eachAfter}
+use Rattle.kit.specs.Lists.{from, flat, eachAfter}
 use Rattle.kit.specs.First.{AllOf}
 use Rattle.kit.proofs.Bools.{both, in-between}
 use Rattle.kit.proofs.Lists.{map-from-at, all-from, from-all}
 use Rattle.kit.proofs.Firsts.{all-of-map}
 use Rattle.types.specs.declared.Acceleration.{Acceleration}
-use Rattle.law.specs.Sizes.{mostLine, mostPlayers, mostRounds, mostAccelerations, mostStart}
-use Rattle.law.specs.Lines.{allowed, End, cr, crlf}
-use Rattle.law.specs.Columns.{blank, isBlank, cells, col, width, afterCode}
-use Rattle.law.specs.Text.{saysName, lastOr, isRepeated}
+use Rattle.law.specs.Sizes.{mostPlayers, mostRounds, mostAccelerations, mostStart}
+use Rattle.law.specs.Lines.{End, cr, crlf}
+use Rattle.law.specs.Columns.{blank, cells, width}
+use Rattle.law.specs.Text.{isRepeated}
 use Rattle.law.specs.Scoring.{defaults}
 use Rattle.law.specs.Accelerations.{shares}
 use Rattle.law.specs.Players.{keptField}
-use Rattle.law.specs.Items.{kept-text, kindOf}
+use Rattle.law.specs.Items.{kindOf}
 use Rattle.law.specs.Tournament.{Entry, Player, Tournament}
 use Rattle.law.specs.Entries.{noPlayer, noEntry, playerAt, entryOf, isBye, opponent, Law, bye-or-game, mutual-pairing, fitting-results, one-U, keeps, worth, earned}
 use Rattle.law.specs.Lawful.{KeptLine, LawfulPlayer, Sits, sharesEarlier, Lawful}
 use Rattle.law.specs.Writing.{writtenLines, written, longest}
-use Rattle.law.proofs.RecordsRead.{kept-columns}
+use Rattle.law.proofs.LinesLawful.{kept-line}
+use Rattle.law.proofs.RecordsRead.{kept-columns, text-line}
 use Rattle.written.proofs.Spelled.{of-all}
 
 -- ---- a list of n times the same
@@ -66,10 +67,6 @@ records-apart j l =
     let apart = of-all (λ i. not (sharesEarlier records i)) (from 0 mostAccelerations) refl in
     not-true (sharesEarlier records j) (from-all (λ i. not (sharesEarlier records i) ≡ true) 0 mostAccelerations apart j (omega arith) (omega arith))
 
--- a line by its tests
-kept-line : (line : List ℕ) → kindOf line ≡ kept-text → isBlank (col line afterCode) ≡ true → saysName line ≡ true → isBlank (lastOr 0 line) ≡ false → all allowed line ≡ true → length line ≤ mostLine → KeptLine line
-kept-line line k g n e a l = record { listed = k; itself = record { gap = g; name = n; kept-is = record { blanks = 0; text = sym (append-nil line); ends = e } }; clean = a; short = l }
-
 player-lawful : (n : ℕ) → 1 ≤ n → n < 1 + mostPlayers → LawfulPlayer mostRounds (absentPlayer n)
 unfolding cells
 player-lawful n a b =
@@ -100,7 +97,7 @@ fullest-lawful : Lawful fullest
 unfolding fullest flat cells kindOf worth earned
 fullest-lawful =
     record {
-      text = (kept-line cup refl refl refl refl refl (omega arith), all-replicate remark KeptLine (kept-line remark refl refl refl refl refl (omega arith)) 510);
+      text = (kept-line cup cup refl (text-line .sound cup cup refl) refl (omega arith), all-replicate remark KeptLine (kept-line remark remark refl (text-line .sound remark remark refl) refl (omega arith)) 510);
       text-once = after-replicate remark (λ before line. not (isRepeated before line)) (λ before. refl) (cup ∷ []) 510;
       text-fits = omega arith;
       named = refl;
