@@ -4,7 +4,7 @@ MOST_FILE = 65_535
 MOST_TEXT = 2_048
 WORTH = {"1": 10, "0": 0, "=": 5, "W": 10, "L": 0, "D": 5, "+": 10, "-": 0, "H": 5, "F": 10, "U": 10, "Z": 0}
 GAMES = ["10", "01", "==", "10", "01", "WL", "LW", "DD", "+-", "10", "=="]
-SET_BY_ARBITER = ["00", "=0", "0=", "=0", "0="]
+SET_BY_ARBITER = ["00", "=0", "0=", "=0", "0="]  # five: of three, `entries` would give every game of a round the same one
 TITLES = ["GM ", "IM ", "WGM", "FM ", "WIM", "CM ", "WFM", "WCM", "   "]
 
 
@@ -81,12 +81,12 @@ def measured():
         ("largest, start numbers from 9999 down", largest(starts=list(range(9999, 9799, -1))), None),
         ("largest, text in 511 lines", report(200, 20, 32, "012 xyz\r" + "112\r" * 510), None),
         ("largest, refused at the last check (16 at the last player)", largest(wrong_last=True), largest()),
-        ("largest, every game set by the arbiter (0 with 0, = with 0)", largest(games=SET_BY_ARBITER), None),
         ("65,535 bytes of CR", filled(b"\r"), None),
         ("65,535 bytes of comments", filled(b"###\r"), None),
         ("65,535 bytes of long comments", filled(b"###" + b"x" * 509 + b"\r"), None),
         ("65,535 bytes of long lines of blanks", filled(b" " * 512 + b"\r"), None),
         ("one line of 65,535 bytes", b"x" * MOST_FILE, None),
+        ("largest, every game set by the arbiter (0 with 0, = with 0)", largest(games=SET_BY_ARBITER), None),
     ]
 
 

@@ -248,7 +248,7 @@ CHANGES = [
     ("Writing", "pointsOr0 (some a) = a .points", "pointsOr0 (some a) = a .points % 100"),
     ("Writing", "pointsOr0 none = 0", "pointsOr0 none = 1"),
     # results that fit
-    *[("Entries", 'ascii "10" ∷', 'ascii "10" ∷ ascii "%s" ∷' % p) for p in ("+0", "11", "1=", "1W", "1L", "1D", "1+", "1-", "0L", "0-", "0W", "0D", "=D", "=-", "=L", "=W", "=+", "WW", "W-", "LL", "DL", "L-", "D-", "++", "+L", "+W")],
+    *[("Entries", 'ascii "10" ∷', 'ascii "10" ∷ ascii "%s" ∷' % p) for p in ("+0", "11", "1=", "1W", "1L", "1D", "1+", "1-", "0L", "0-", "0W", "0D", "=D", "=-", "=L", "=W", "=+", "WW", "W-", "LL", "DL", "L-", "D-", "++", "+L", "+W", "+D", "WD", "0Z", "=H")],
     *[("Entries", 'ascii "%s" ∷' % p, "") for p in ("10", "==", "WL", "DD", "+-", "--", "00", "=0")],
     *[("Entries", 'ascii "%s" ∷' % p, 'ascii "%s" ∷' % q) for p, q in (("00", "LL"), ("00", "0L"), ("00", "0-"), ("00", "0="), ("00", "--"), ("=0", "=L"), ("=0", "=-"), ("=0", "=1"), ("=0", "DL"), ("=0", "D0"), ("=0", "+0"), ("=0", "=W"))],
     *[("Entries", "isOneOf (b ∷ a ∷ []) fittingPairs", "isOneOf (b ∷ a ∷ []) (take %d fittingPairs)" % n) for n in (7, 6, 4, 2)],

@@ -1,2 +1,3 @@
+pub mod Opposite
 pub mod Flags
 pub mod Kept

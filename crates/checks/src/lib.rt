@@ -15,7 +15,7 @@ ghost use Rattle.join.specs.Grid.{firstFrom};
 ghost use Rattle.join.specs.Check.{placeAt, roundAt, isGameBy, hasUAt, keepsCell, brokenCell};
 ghost use Rattle.turns.specs.Found.{asFoundTurn};
 ghost use Rattle.index.specs.Index.{asPlaced, Indexed, IsIndex};
-ghost use Rattle.checks.specs.Results.{entry, isPair};
+ghost use Rattle.checks.specs.Results.{entry};
 ghost use Rattle.checks.specs.Laws.{asLaw, four, Long};
 use index::Placed;
 use index::START_CELLS;
@@ -25,27 +25,18 @@ use types::MOST_ROUNDS;
 use types::Place;
 use types::StartNumber;
 
-// Whether two results fit, the better one first.
-fn is_pair(a: u8, b: u8) -> bool
-    ensures { λ r. ⌜ r ≡ isPair a b ⌝ }
-{
-    ((a == b'1') & (b == b'0'))
-        | ((a == b'=') & (b == b'='))
-        | ((a == b'W') & (b == b'L'))
-        | ((a == b'D') & (b == b'D'))
-        | ((a == b'+') & (b == b'-'))
-        | ((a == b'-') & (b == b'-'))
-        | ((a == b'0') & (b == b'0'))
-        | ((a == b'=') & (b == b'0'))
-}
-
-// Whether two results are those of one game.
-pub fn fits(a: u8, b: u8) -> bool
+// Whether two results are those of one game: for each result, what may stand opposite.
+fn fits(a: u8, b: u8) -> bool
     ensures { λ r. ⌜ r ≡ entries.fits a b ⌝ }
 {
-    let one = is_pair(a, b);
-    let other = is_pair(b, a);
-    one | other
+    ((a == b'1') & (b == b'0'))
+        | ((a == b'=') & ((b == b'=') | (b == b'0')))
+        | ((a == b'0') & ((b == b'1') | (b == b'=') | (b == b'0')))
+        | ((a == b'W') & (b == b'L'))
+        | ((a == b'D') & (b == b'D'))
+        | ((a == b'L') & (b == b'W'))
+        | ((a == b'+') & (b == b'-'))
+        | ((a == b'-') & ((b == b'+') | (b == b'-')))
 }
 
 fn is_bye_result(result: u8) -> bool

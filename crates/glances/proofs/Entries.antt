@@ -1,20 +1,21 @@
 -- What the tests of one entry say of 12, 13 and 14: over plain values, as the code has them. Assumes nothing.
 use mathlib.Core.Path.{_≡_, refl, sym, ap, _∙_}
-use mathlib.Core.Bool.{Bool, true, false, _&&_, _||_, not, or-true}
-use mathlib.Core.List.{List, [], _∷_}
+use mathlib.Core.Bool.{Bool, true, false, _||_, not, or-true}
+use mathlib.Core.List.{List}
 use Prim.Native.Nat.{ℕ, _<_}
 use native.Mathlib.Decide.{ℕ-discrete}
 use native.Mathlib.Omega.{arith}
 use borrow.Author.Tests.{eq-eqb, ne-eqb, eqb-true}
 use lib.Dec.{eqb}
-use lib.ListN.{getD, set, replicate, length-set, getD-replicate}
+use lib.ListN.{length, getD, set, replicate, length-set, getD-replicate}
 use lib.Seq.{getD-set-same, getD-set-other}
-use Rattle.kit.specs.Lists.{all, among, isOneOf}
-use Rattle.kit.proofs.Bools.{clash, and, one-of-texts}
+use Rattle.kit.specs.Lists.{all, among}
+use Rattle.kit.proofs.Bools.{clash, and, both-ways}
 use Rattle.types.specs.declared.Place.{Place}
 use Rattle.law.specs.Players.{gameResults}
 use Rattle.law.specs.Entries.{isBye, fittingPairs, fits, bye-or-game}
 use Rattle.law.specs.Tables.{cellOf}
+use Rattle.law.proofs.Pairs.{eitherWay, of-fitting, listed-fit}
 use Rattle.join.specs.Store.{placeOf}
 use Rattle.join.specs.Check.{entryCell, isGameBy, keepsCell}
 use Rattle.index.specs.declared.Placed.{Placed}
@@ -23,36 +24,46 @@ use Rattle.index.specs.Index.{asPlaced}
 use Rattle.checks.specs.Results.{entry}
 use Rattle.checks.specs.Laws.{four}
 use Rattle.checks.proofs.Kept.{game-somebody, bye-kept, mutual-alone, fitting-alone, mutual-kept, fitting-kept}
-use Rattle.glances.specs.Glance.{Answered, Answers, Opposite, KeepsEntry}
+use Rattle.glances.specs.Glance.{seldomPairs, isSeldom, shows, Answers, Opposite, KeepsEntry}
 
--- ---- two results
-pub answers-none : Answers (replicate 256 0)
-answers-none = record { long = refl; each = λ c l no-zero. absurd (no-zero (getD-replicate {A = ℕ} 256 c 0 0 l)) }
+-- ---- two results: cells of which each that is not 0 fits
+abbrev pub Answered : ℕ → ℕ → Type 0
+Answered result answer = (answer ≡ 0 → ⊥) → fits result answer ≡ true
 
-pub answers-more : {cells : List ℕ} → Answers cells → (a b : ℕ) → a < 256 → fits a b ≡ true → Answers (set cells a b)
-answers-more {cells} h a b l fit = record { long = length-set cells a b ∙ h .long; each = λ c k. go c k (ℕ-discrete c a) }
+pub record Fitted (cells : List ℕ) : Type 0 where
+  pub long : length cells ≡ 256
+  pub each : (result : ℕ) → result < 256 → Answered result (getD cells result 0)
+
+pub fitted-none : Fitted (replicate 256 0)
+fitted-none = record { long = refl; each = λ c l no-zero. absurd (no-zero (getD-replicate {A = ℕ} 256 c 0 0 l)) }
+
+pub fitted-more : {cells : List ℕ} → Fitted cells → (a b : ℕ) → a < 256 → fits a b ≡ true → Fitted (set cells a b)
+fitted-more {cells} h a b l fit = record { long = length-set cells a b ∙ h .long; each = λ c k. go c k (ℕ-discrete c a) }
   where
     go : (c : ℕ) → c < 256 → Dec (c ≡ a) → Answered c (getD (set cells a b) c 0)
     go c k (yes e) = λ _. rw (e, getD-set-same cells a b 0 (omega (arith, l, h .long))) fit
     go c k (no d) = rw (getD-set-other cells a c b 0 d) (h .each c k)
 
-pub answer-fits : {cells : List ℕ} → Answers cells → (result theirs : ℕ) → result < 256 → not (eqb (getD cells result 0) 0) && eqb theirs (getD cells result 0) ≡ true → true ≡ fits result theirs
-answer-fits {cells} h result theirs l e =
-    let answer : ℕ = getD cells result 0 in
-    let k = and (not (eqb answer 0)) (eqb theirs answer) e in
-    sym (ap (fits result) (eqb-true theirs answer (k .1)) ∙ h .each result l (λ z. clash (sym (ap not (eq-eqb answer 0 z)) ∙ k .0)))
-
--- what fits is a result of a game: each of each pair is
-abbrev ofGames : List ℕ → Bool
-ofGames results = all (λ c. among c gameResults) results
-
-pub fitting-game : (a b : ℕ) → fits a b ≡ true → among a gameResults ≡ true
+-- what they show fits
+shown-fits : {cells : List ℕ} → Fitted cells → (result theirs : ℕ) → result < 256 → shows cells result theirs ≡ true → fits result theirs ≡ true
 unfolding fits
-fitting-game a b e = go (isOneOf (a ∷ b ∷ []) fittingPairs) refl e
+shown-fits {cells} h result theirs l e = let k = and (not (eqb answer 0)) (eqb theirs answer || isSeldom result theirs) e in go (k .0) (eqb theirs answer) refl (k .1)
   where
-    go : (v : Bool) → isOneOf (a ∷ b ∷ []) fittingPairs ≡ v → v || isOneOf (b ∷ a ∷ []) fittingPairs ≡ true → among a gameResults ≡ true
-    go true h e = and (among a gameResults) _ (one-of-texts ofGames (a ∷ b ∷ []) fittingPairs h refl) .0
-    go false h e = and (among a gameResults) _ (and (among b gameResults) _ (one-of-texts ofGames (b ∷ a ∷ []) fittingPairs e refl) .1) .0
+    answer : ℕ
+    answer = getD cells result 0
+
+    go : not (eqb answer 0) ≡ true → (v : Bool) → eqb theirs answer ≡ v → v || isSeldom result theirs ≡ true → fits result theirs ≡ true
+    go some true p _ = ap (fits result) (eqb-true theirs answer p) ∙ h .each result l (λ z. clash (sym (ap not (eq-eqb answer 0 z)) ∙ some))
+    go some false _ s = listed-fit seldomPairs refl result theirs s
+
+-- and if all listed pairs are shown, it is what fits
+pub fitted-answers : {cells : List ℕ} → Fitted cells → all (eitherWay (shows cells)) fittingPairs ≡ true → Answers cells
+fitted-answers {cells} h every =
+    record { long = h .long; each = λ result theirs l. both-ways (shows cells result theirs) (fits result theirs) (shown-fits h result theirs l) (of-fitting (shows cells) every result theirs) }
+
+-- what fits is a result of a game
+pub fitting-game : (a b : ℕ) → fits a b ≡ true → among a gameResults ≡ true
+fitting-game a b = of-fitting (λ own theirs. among own gameResults) refl a b
 
 -- ---- two colours
 pub opposite : (a b : ℕ) → Opposite a b → (colour theirs : ℕ) → colour ≡ a → eqb theirs b ≡ true → Opposite colour theirs

@@ -13,7 +13,7 @@ ghost use Rattle.join.specs.Grid.{firstFrom};
 ghost use Rattle.join.specs.Check.{pastCell, brokenCell};
 ghost use Rattle.index.specs.Index.{Indexed, IsIndex};
 ghost use Rattle.checks.specs.Laws.{four, Long};
-ghost use Rattle.glances.specs.Glance.{Answers, Opposite, KeepsEntry, KeepsRow, KeepsRows, Noted, OnceU, BlankRow};
+ghost use Rattle.glances.specs.Glance.{isSeldom, Answers, Opposite, KeepsEntry, KeepsRow, KeepsRows, Noted, OnceU, BlankRow};
 use index::Placed;
 use index::START_CELLS;
 use types::MOST_ROUNDS;
@@ -23,7 +23,7 @@ use types::StartNumber;
 // A cell for each byte.
 const BYTES: usize = 256;
 
-// The result that mostly stands opposite each result of a game, at its byte; 0 at every other. Made once for all entries. Promised: what is not 0 fits.
+// The result that mostly stands opposite each result of a game, at its byte; 0 at every other. Made once for all entries.
 fn answer_table() -> [u8; BYTES]
     ensures { λ r. ⌜ Answers r ⌝ }
 {
@@ -39,17 +39,29 @@ fn answer_table() -> [u8; BYTES]
     answers
 }
 
-// Whether two results are those of one game: mostly by one look at the table. Those that both lost, that nobody came to, or that a draw was given one side of
-// only, are asked for by all pairs, and are a yes too.
+// Whether two results are of the few that fit and seldom stand opposite each other: nobody came, or the arbiter set them.
+fn is_seldom(result: u8, theirs: u8) -> bool
+    ensures { λ r. ⌜ r ≡ isSeldom result theirs ⌝ }
+{
+    ((result == b'-') & (theirs == b'-'))
+        | ((result == b'0') & (theirs == b'0'))
+        | ((result == b'=') & (theirs == b'0'))
+        | ((result == b'0') & (theirs == b'='))
+}
+
+// Whether two results are those of one game.
 fn are_one_game(result: u8, theirs: u8, answers: &[u8; BYTES]) -> bool
     requires { ⌜ Answers (now answers) ⌝ }
     ensures { λ r. ⌜ r ≡ fits result theirs ⌝ }
 {
     let answer = answers[result as usize];
-    if (answer != 0) & (theirs == answer) {
+    if answer == 0 {
+        return false;
+    }
+    if theirs == answer {
         return true;
     }
-    checks::fits(result, theirs)
+    is_seldom(result, theirs)
 }
 
 // Whether two colours are those of one game.

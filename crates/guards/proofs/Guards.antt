@@ -262,8 +262,7 @@ entryRows =
     (refuses (cup ++ (person "   1" " 9.0" "   1" ((92, "   2 w 1  0000 - U") ∷ []) ++ person "   2" " 0.0" "   2" ((92, "   1 b 1  0000 - U") ∷ []))) 14 2 1, refl) ∷
     (refuses (two " 9.0" "0000 - U" " 1.0" "0000 - U") 15 3 1, refl) ∷
     -- not mutual, seen from the higher number
-    (refuses (two " 0.0" "0000 - Z" " 1.0" "   1 b 1") 13 3 1, refl) ∷ (refuses (two " 0.0" "   2 w +" " 0.0" "   1 b +") 14 2 1, refl) ∷
-    (refuses (two " 0.0" "   2 w 1" " 0.0" "   1 b L") 14 2 1, refl) ∷ (refuses (two " 0.0" "   2 w D" " 0.0" "   1 b =") 14 2 1, refl) ∷
+    (refuses (two " 0.0" "0000 - Z" " 1.0" "   1 b 1") 13 3 1, refl) ∷
     -- set by the arbiter: lost by both, and drawn by one and lost by the other, either way round, with what each earns
     (accepts (two " 0.0" "   2 b 0" " 0.0" "   1 w 0") 2 1 0, refl) ∷ (accepts (two " 0.5" "   2 w =" " 0.0" "   1 b 0") 2 1 0, refl) ∷ (accepts (two " 0.0" "   2 w 0" " 0.5" "   1 b =") 2 1 0, refl) ∷
     (refuses (two " 1.0" "   2 w 0" " 0.0" "   1 b 0") 16 2 0, refl) ∷ (refuses (two " 0.5" "   2 w =" " 0.5" "   1 b 0") 16 3 0, refl) ∷ (refuses (two " 0.0" "   2 w 0" " 1.0" "   1 b =") 16 3 0, refl) ∷
@@ -273,6 +272,7 @@ entryRows =
     (refuses (two " 0.5" "   2 w =" " 0.0" "   1 b L") 14 2 1, refl) ∷ (refuses (two " 0.0" "   2 w 0" " 0.0" "   1 b L") 14 2 1, refl) ∷ (refuses (two " 0.5" "   2 w =" " 0.0" "   1 b -") 14 2 1, refl) ∷
     (refuses (two " 1.0" "   2 w 1" " 1.0" "   1 b 1") 14 2 1, refl) ∷ (refuses (two " 1.0" "   2 w +" " 0.0" "   1 b 0") 14 2 1, refl) ∷ (refuses (two " 0.5" "   2 w D" " 0.0" "   1 b 0") 14 2 1, refl) ∷
     (refuses (two " 1.0" "   2 w 1" " 0.5" "   1 b =") 14 2 1, refl) ∷ (refuses (two " 0.0" "   2 w 0" " 0.0" "   1 b -") 14 2 1, refl) ∷
+    (refuses (two " 0.0" "   2 w +" " 0.0" "   1 b +") 14 2 1, refl) ∷ (refuses (two " 0.0" "   2 w 1" " 0.0" "   1 b L") 14 2 1, refl) ∷ (refuses (two " 0.0" "   2 w D" " 0.0" "   1 b =") 14 2 1, refl) ∷
     -- such games are held, written and asked for as they stand
     (stores setByArbiter ((results, 0, code "0") ∷ (results, 1, code "=") ∷ (results, 2, code "=") ∷ (results, 20, code "0") ∷ (results, 21, code "0") ∷ (results, 22, code "0") ∷ (points, 0, 10) ∷ (points, 1, 0) ∷ []), refl) ∷
     (writes as-left setByArbiter ((cr-alone, 700, 0, setByArbiter) ∷ (cr-lf, 700, 0, withLF setByArbiter) ∷ []), refl) ∷

@@ -6,6 +6,7 @@ pub mod LinesRead
 pub mod Seats
 pub mod ColumnLaws
 pub mod Values
+pub mod Pairs
 pub mod LinesLawful
 pub mod NewAndFew
 pub mod Accepts

@@ -48,8 +48,8 @@ asked f (some q) = f q
 abbrev pub answers : Player → Entry → Entry → Bool
 answers p e theirs = eqb (theirs .id) (p .start) && not (eqb (theirs .colour) (e .colour))
 
--- "Results that fit: 1 with 0, = with =, W with L, D with D, + with -, and - with - (nobody came)." Set by the arbiter: "0 with 0 now fits, and = with 0
--- either way round."
+-- "Results that fit: 1 with 0, = with =, W with L, D with D, + with -, and - with - (nobody came)." Document 02, of results set by the
+-- arbiter: "0 with 0 now fits, and = with 0 either way round."
 abbrev pub fittingPairs : List (List ℕ)
 fittingPairs = ascii "10" ∷ ascii "==" ∷ ascii "WL" ∷ ascii "DD" ∷ ascii "+-" ∷ ascii "--" ∷ ascii "00" ∷ ascii "=0" ∷ []
 

@@ -1,9 +1,9 @@
--- `glances::answer_table` meets its contract: each answer fits by the list. Assumes nothing.
+-- `glances::answer_table` meets its contract: each answer fits, and with the seldom ones all listed pairs are shown. Assumes nothing.
 use mathlib.Core.Path.{refl}
 use native.Mathlib.Omega.{arith}
 use borrow.Author.Needs.{needs}
 use Rattle.law.specs.Entries.{fits}
-use Rattle.glances.proofs.Entries.{answers-none, answers-more}
+use Rattle.glances.proofs.Entries.{fitted-none, fitted-more, fitted-answers}
 use Rattle.glances.proofs.answer_table.Statement.{statement}
 use Rattle.glances.proofs.answer_table.Tie as tie
 
@@ -58,7 +58,9 @@ array-write-answers-8 c = search needs
 returns : tie.Need-returns
 unfolding fits
 returns c =
-    answers-more (answers-more (answers-more (answers-more (answers-more (answers-more (answers-more (answers-more answers-none 49 48 (omega arith) refl) 48 49 (omega arith) refl) 61 61 (omega arith) refl) 87 76 (omega arith) refl) 76 87 (omega arith) refl) 68 68 (omega arith) refl) 43 45 (omega arith) refl) 45 43 (omega arith) refl
+    fitted-answers
+    (fitted-more (fitted-more (fitted-more (fitted-more (fitted-more (fitted-more (fitted-more (fitted-more fitted-none 49 48 (omega arith) refl) 48 49 (omega arith) refl) 61 61 (omega arith) refl) 87 76 (omega arith) refl) 76 87 (omega arith) refl) 68 68 (omega arith) refl) 43 45 (omega arith) refl) 45 43 (omega arith) refl)
+    refl
 
 pub answer-table-spec : {M : Type 1} → statement M
 answer-table-spec =
