@@ -9,8 +9,8 @@ use lib.Dec.{eqb}
 use Rattle.kit.specs.Ascii.{ascii}
 use Rattle.kit.specs.Lists.{all, any, among}
 use Rattle.kit.proofs.Bools.{clash, and, both-ways, among-all}
-use Rattle.law.specs.Entries.{fits}
-use Rattle.law.proofs.Pairs.{of-fitting}
+use Rattle.kit.proofs.Pairs.{listed-either}
+use Rattle.law.specs.Entries.{fittingPairs, fits}
 
 -- a result and those that may stand opposite
 abbrev pub Row : Type 0
@@ -37,4 +37,4 @@ in-fits (row ∷ l) h a b e = let k = and (doFit row) (all doFit l) h in go (isI
 
 pub rows-fit : (a b : ℕ) → any (isIn a b) rows ≡ fits a b
 unfolding fits
-rows-fit a b = both-ways (any (isIn a b) rows) (fits a b) (in-fits rows refl a b) (of-fitting (λ own theirs. any (isIn own theirs) rows) refl a b)
+rows-fit a b = both-ways (any (isIn a b) rows) (fits a b) (in-fits rows refl a b) (listed-either (λ own theirs. any (isIn own theirs) rows) fittingPairs refl a b)

@@ -5,8 +5,8 @@ use mathlib.Core.List.{[], _∷_}
 use Prim.Native.Nat.{ℕ}
 use Rattle.kit.specs.Lists.{isOneOf}
 use Rattle.kit.proofs.Bools.{both-ways}
-use Rattle.law.specs.Entries.{fits}
-use Rattle.law.proofs.Pairs.{of-fitting, listed-fit}
+use Rattle.kit.proofs.Pairs.{listed-pair, listed-either}
+use Rattle.law.specs.Entries.{fittingPairs, fits}
 use Rattle.demands.specs.Demands.{fittingWays}
 
 abbrev isWay : ℕ → ℕ → Bool
@@ -14,4 +14,4 @@ isWay own theirs = isOneOf (own ∷ theirs ∷ []) fittingWays
 
 pub results-fit : (own theirs : ℕ) → fits own theirs ≡ isOneOf (own ∷ theirs ∷ []) fittingWays
 unfolding fits
-results-fit own theirs = both-ways (fits own theirs) (isWay own theirs) (of-fitting isWay refl own theirs) (listed-fit fittingWays refl own theirs)
+results-fit own theirs = both-ways (fits own theirs) (isWay own theirs) (listed-either isWay fittingPairs refl own theirs) (listed-pair fits fittingWays refl own theirs)

@@ -11,11 +11,11 @@ use lib.ListN.{length, getD, set, replicate, length-set, getD-replicate}
 use lib.Seq.{getD-set-same, getD-set-other}
 use Rattle.kit.specs.Lists.{all, among}
 use Rattle.kit.proofs.Bools.{clash, and, both-ways}
+use Rattle.kit.proofs.Pairs.{eitherWay, listed-pair, listed-either}
 use Rattle.types.specs.declared.Place.{Place}
 use Rattle.law.specs.Players.{gameResults}
 use Rattle.law.specs.Entries.{isBye, fittingPairs, fits, bye-or-game}
 use Rattle.law.specs.Tables.{cellOf}
-use Rattle.law.proofs.Pairs.{eitherWay, of-fitting, listed-fit}
 use Rattle.join.specs.Store.{placeOf}
 use Rattle.join.specs.Check.{entryCell, isGameBy, keepsCell}
 use Rattle.index.specs.declared.Placed.{Placed}
@@ -54,16 +54,18 @@ shown-fits {cells} h result theirs l e = let k = and (not (eqb answer 0)) (eqb t
 
     go : not (eqb answer 0) ≡ true → (v : Bool) → eqb theirs answer ≡ v → v || isSeldom result theirs ≡ true → fits result theirs ≡ true
     go some true p _ = ap (fits result) (eqb-true theirs answer p) ∙ h .each result l (λ z. clash (sym (ap not (eq-eqb answer 0 z)) ∙ some))
-    go some false _ s = listed-fit seldomPairs refl result theirs s
+    go some false _ s = listed-pair fits seldomPairs refl result theirs s
 
 -- and if all listed pairs are shown, it is what fits
 pub fitted-answers : {cells : List ℕ} → Fitted cells → all (eitherWay (shows cells)) fittingPairs ≡ true → Answers cells
+unfolding fits
 fitted-answers {cells} h every =
-    record { long = h .long; each = λ result theirs l. both-ways (shows cells result theirs) (fits result theirs) (shown-fits h result theirs l) (of-fitting (shows cells) every result theirs) }
+    record { long = h .long; each = λ result theirs l. both-ways (shows cells result theirs) (fits result theirs) (shown-fits h result theirs l) (listed-either (shows cells) fittingPairs every result theirs) }
 
 -- what fits is a result of a game
 pub fitting-game : (a b : ℕ) → fits a b ≡ true → among a gameResults ≡ true
-fitting-game a b = of-fitting (λ own theirs. among own gameResults) refl a b
+unfolding fits
+fitting-game a b = listed-either (λ own theirs. among own gameResults) fittingPairs refl a b
 
 -- ---- two colours
 pub opposite : (a b : ℕ) → Opposite a b → (colour theirs : ℕ) → colour ≡ a → eqb theirs b ≡ true → Opposite colour theirs

@@ -1,4 +1,5 @@
 pub mod Bools
+pub mod Pairs
 pub mod Decided
 pub mod Firsts
 pub mod Lists

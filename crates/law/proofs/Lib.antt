@@ -6,7 +6,6 @@ pub mod LinesRead
 pub mod Seats
 pub mod ColumnLaws
 pub mod Values
-pub mod Pairs
 pub mod LinesLawful
 pub mod NewAndFew
 pub mod Accepts
