@@ -195,13 +195,13 @@ pub fn change_records(
 }
 
 // One scoring value.
-fn change_values(of: [u32; 6], c: Case) -> [u32; 6] {
+fn change_values(of: [u32; types::VALUES], c: Case) -> [u32; types::VALUES] {
     let mut values = of;
     let cell = c.cell;
     if c.part != VALUES {
         return values;
     }
-    if cell < 6 {
+    if cell < types::VALUES {
         values[cell] = c.value;
     }
     values

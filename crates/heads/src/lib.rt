@@ -12,9 +12,16 @@ ghost use Rattle.heads.specs.Lines.{spanText, spanWide, roundWide, start
 use puts::BETWEEN;
 use puts::START_COLUMNS;
 use puts::Terminator;
+use types::ABSENT;
 use types::Acceleration;
+use types::DRAW;
+use types::LOSS;
 use types::MOST_ACCELERATIONS;
+use types::PAIRING;
 use types::StartNumber;
+use types::UNKNOWN;
+use types::VALUES;
+use types::WIN;
 
 // How many columns the rounds of a 250 line have.
 const ROUND_COLUMNS: usize = 3;
@@ -123,15 +130,15 @@ fn put_value(out: &mut [u8], at: usize, gap: usize, letter: u8, points: u32) -> 
 }
 
 // 162 with the values of W D L A P X; `scorings::Scoring::from_line` reads it.
-pub fn put_scoring(out: &mut [u8], at: usize, values: [u32; 6]) -> usize
+pub fn put_scoring(out: &mut [u8], at: usize, values: [u32; VALUES]) -> usize
     requires { ⌜ at + scoringWide ≤ length (now out) ⌝ }
     ensures { λ r. ⌜ Puts (scoringLine (scoringIn values)) scoringWide at (now (out .entry)) (now (out .exit)) r ⌝ }
 {
     let at = puts::put_code(out, at, b'1', b'6', b'2');
-    let at = put_value(out, at, BEFORE_SLOTS, b'W', values[0]);
-    let at = put_value(out, at, BETWEEN_SLOTS, b'D', values[1]);
-    let at = put_value(out, at, BETWEEN_SLOTS, b'L', values[2]);
-    let at = put_value(out, at, BETWEEN_SLOTS, b'A', values[3]);
-    let at = put_value(out, at, BETWEEN_SLOTS, b'P', values[4]);
-    put_value(out, at, BETWEEN_SLOTS, b'X', values[5])
+    let at = put_value(out, at, BEFORE_SLOTS, b'W', values[WIN]);
+    let at = put_value(out, at, BETWEEN_SLOTS, b'D', values[DRAW]);
+    let at = put_value(out, at, BETWEEN_SLOTS, b'L', values[LOSS]);
+    let at = put_value(out, at, BETWEEN_SLOTS, b'A', values[ABSENT]);
+    let at = put_value(out, at, BETWEEN_SLOTS, b'P', values[PAIRING]);
+    put_value(out, at, BETWEEN_SLOTS, b'X', values[UNKNOWN])
 }

@@ -34,9 +34,7 @@ use types::MOST_PLAYERS;
 use types::MOST_POINTS;
 use types::MOST_ROUNDS;
 use types::MOST_TEXT;
-
-// The scoring values, one for each of W D L A P X.
-const VALUES: usize = 6;
+use types::VALUES;
 
 // Whether each scoring value is one that a points field can hold.
 fn are_small(values: [u32; VALUES]) -> bool

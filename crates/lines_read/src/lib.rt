@@ -20,6 +20,7 @@ use types::Answer;
 use types::LineNumber;
 use types::MOST_ACCELERATIONS;
 use types::NO_ACCELERATION;
+use types::VALUES;
 
 // What the core of a reading answers: the answer, the acceleration records, and how many of them are to be filled into the lent list: all, or none where a
 // table is too short.
@@ -62,7 +63,7 @@ pub fn refused(number: u32, line: LineNumber, round: u32, fill: usize) -> CoreAn
             accelerations: 0,
             text: 0,
             colour: 0,
-            values: [0; 6],
+            values: [0; VALUES],
         },
         records: [NO_ACCELERATION; MOST_ACCELERATIONS],
         fill,

@@ -1,6 +1,13 @@
 // A 162 line, by value: the values of W D L A P X that it gives, and of those that it does not the defaults, or for P and X the event's own W and D. A line against its rule is refusal 7:
 // Value's Bad; Given and Scored with good false.
 use fields::Points;
+use types::ABSENT;
+use types::DRAW;
+use types::LOSS;
+use types::PAIRING;
+use types::UNKNOWN;
+use types::VALUES;
+use types::WIN;
 ghost use mathlib.Core.Path.{_≡_};
 ghost use mathlib.Core.Bool.{true, cond};
 ghost use mathlib.Core.Option.{some};
@@ -16,7 +23,7 @@ ghost use Rattle.scorings.specs.Scoring.{letterPlace, valueSays, placed,
 
 // What W, D, L, A, P and X are worth, in tenths.
 pub struct Scoring {
-    pub values: [u32; 6],
+    pub values: [u32; VALUES],
 }
 
 // A 162 line; where it is not good, the defaults.
@@ -35,22 +42,9 @@ enum Value {
 struct Given {
     good: bool,
     filled: bool,
-    seen: [bool; 6],
-    values: [u32; 6],
+    seen: [bool; VALUES],
+    values: [u32; VALUES],
 }
-
-// Where the value of each letter stands among those of W D L A P X.
-const WIN: usize = 0;
-
-const DRAW: usize = 1;
-
-const LOSS: usize = 2;
-
-const ABSENT: usize = 3;
-
-const PAIRING: usize = 4;
-
-const UNKNOWN: usize = 5;
 
 // The place of a letter among W D L A P X; 6 for any other byte.
 fn letter_place(c: u8) -> usize
@@ -63,7 +57,7 @@ fn letter_place(c: u8) -> usize
         b'A' => ABSENT,
         b'P' => PAIRING,
         b'X' => UNKNOWN,
-        _ => 6,
+        _ => VALUES,
     }
 }
 
@@ -72,7 +66,7 @@ fn value_at(line: &[u8], from: usize) -> Value
     ensures { λ r. ⌜ valueSays r ≡ orBadField (to placed (valueOf (cells (now (line .entry)) from 5))) ⌝ }
 {
     let letter = letter_place(fields::column(line, from));
-    if 6 <= letter {
+    if VALUES <= letter {
         return Value::Bad;
     }
     let Points::Tenths(points) = fields::points_at(line, from + 1) else {
@@ -90,7 +84,7 @@ fn nothing_given(good: bool) -> Given
     Given {
         good,
         filled: false,
-        seen: [false; 6],
+        seen: [false; VALUES],
         values,
     }
 }
@@ -118,7 +112,12 @@ fn value_or(given: bool, value: u32, other: u32) -> u32
 }
 
 // The values with one more that is given, at its place and at its follower's: a P or X that is not given takes the event's own W or D.
-fn with_value(values: [u32; 6], seen: [bool; 6], place: usize, points: u32) -> [u32; 6]
+fn with_value(
+    values: [u32; VALUES],
+    seen: [bool; VALUES],
+    place: usize,
+    points: u32,
+) -> [u32; VALUES]
     requires { ⌜ place < 6 ⌝ }
     ensures { λ r. ⌜ ((given : List (ℕ × ℕ)) (letter : ℕ) → among letter letters ≡ true → place ≡ letterPlace letter → values ≡ valuesOf given → seen ≡ seenIn given → r ≡ valuesOf ((letter, points) ∷ given)) ⌝ }
 {
@@ -166,7 +165,7 @@ fn slots_given(line: &[u8]) -> Given
     ensures { λ r. ⌜ GivenSays (differing (slotsIn (now (line .entry)))) r ⌝ }
 {
     let mut given = nothing_given(true);
-    let mut i = 6;
+    let mut i = VALUES;
     while 0 < i {
         i -= 1;
         given = with_slot(line, 5 + 9 * i, given);

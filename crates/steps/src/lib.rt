@@ -23,6 +23,7 @@ use scorings::Scoring;
 use types::LineNumber;
 use types::MOST_ACCELERATIONS;
 use types::MOST_TEXT;
+use types::VALUES;
 
 // How many codes there are of kept text, and the place of the one that may stand more than once.
 pub const TEXT_CODES: usize = 16;
@@ -40,7 +41,7 @@ pub struct Counts {
     pub rounds: u32,
     pub colour: u8,
     pub scored: bool,
-    pub values: [u32; 6],
+    pub values: [u32; VALUES],
 }
 
 // The refusal of a line, or 0 and the counts after it.

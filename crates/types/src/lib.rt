@@ -38,7 +38,7 @@ pub struct Answer {
     pub accelerations: u32,
     pub text: usize,
     pub colour: u8,
-    pub values: [u32; 6],
+    pub values: [u32; VALUES],
 }
 
 // What a writing answers: the refusal, or the bytes written.
@@ -79,6 +79,21 @@ pub const MOST_POINTS: u32 = 999;
 pub const MOST_START: u32 = 9999;
 
 pub const MOST_RANK: u32 = 9999;
+
+// The scoring values, one for each of W D L A P X, and where each stands among them.
+pub const VALUES: usize = 6;
+
+pub const WIN: usize = 0;
+
+pub const DRAW: usize = 1;
+
+pub const LOSS: usize = 2;
+
+pub const ABSENT: usize = 3;
+
+pub const PAIRING: usize = 4;
+
+pub const UNKNOWN: usize = 5;
 
 // The columns of a player's line that are kept.
 pub const KEPT_COLUMNS: usize = 70;

@@ -25,6 +25,7 @@ use types::Acceleration;
 use types::LineNumber;
 use types::MOST_ACCELERATIONS;
 use types::MOST_PLAYERS;
+use types::VALUES;
 
 // A refusal by its number, line and round; zeros where there is none.
 pub struct Verdict {
@@ -91,7 +92,7 @@ pub fn sharing(records: [Acceleration; MOST_ACCELERATIONS], n: usize, lines: &[u
 pub fn wrong_points(
     points: &[u32],
     results: &[u8],
-    values: [u32; 6],
+    values: [u32; VALUES],
     lines: &[u32],
     n: usize,
     rounds: u32,

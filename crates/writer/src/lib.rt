@@ -20,6 +20,7 @@ use types::Answer;
 use types::CR;
 use types::LineNumber;
 use types::MOST_ACCELERATIONS;
+use types::VALUES;
 use types::Written;
 
 // How many bytes the lines have: 142 up to its number, 152, 162, 250, 001 up to the rank, and a round of it.
@@ -141,7 +142,7 @@ fn put_heads(
     at: usize,
     rounds: u32,
     colour: u8,
-    values: [u32; 6],
+    values: [u32; VALUES],
     end: Terminator,
 ) -> usize
     requires { ⌜ (rounds ≤ mostRounds) × (at + headsWide rounds colour end ≤ length (now out)) ⌝ }
