@@ -1,5 +1,6 @@
 pub mod Bools
 pub mod Pairs
+pub mod Places
 pub mod Decided
 pub mod Firsts
 pub mod Lists

@@ -6,7 +6,7 @@ use Prim.Native.Nat.{ℕ, zero, suc, _+_, _*_, _-_, _≤_, _<_}
 use native.Mathlib.Decide.{ℕ-discrete}
 use native.Mathlib.Nat.{add-zero, zero-add, zero-mul, suc-mul}
 use native.Mathlib.Omega.{arith}
-use lib.ListN.{length, getD, length-append, List·getD-append}
+use lib.ListN.{length, getD, length-append, length-map, List·getD-append}
 use lib.Seq.{append-snoc, getD-append-add}
 use lib.Dec.{ltb}
 use borrow.Author.Tests.{not-true, ltb-false, le-ltb}
@@ -22,6 +22,14 @@ pub map-from-at : {A : Type 0} (f : ℕ → A) (d : A) (i n k : ℕ) → k < n �
 map-from-at f d i zero k l = absurd (omega arith)
 map-from-at f d i (suc n) zero l = ap f (sym (add-zero i))
 map-from-at f d i (suc n) (suc k) l = map-from-at f d (i + 1) n k (omega arith) ∙ ap f (omega arith)
+
+-- a list that is made of the first n numbers
+module _ {A : Type 0} (f : ℕ → A) where
+  pub made-length : (n i : ℕ) → length (map f (from i n)) ≡ n
+  made-length n i = length-map (from i n) f ∙ length-from i n
+
+  pub made-at : (d : A) (n i : ℕ) → i < n → getD (map f (from 0 n)) i d ≡ f i
+  made-at d n i l = map-from-at f d 0 n i l ∙ ap f (zero-add i)
 
 -- of every number of a run
 module _ (P : ℕ → Type 0) where

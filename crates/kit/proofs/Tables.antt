@@ -3,13 +3,12 @@ use mathlib.Core.Path.{_≡_, refl, sym, ap, _∙_}
 use mathlib.Core.List.{List, _++_, map}
 use Prim.Native.Nat.{ℕ, _+_, _-_, _≤_, _<_}
 use native.Mathlib.Decide.{decLt}
-use native.Mathlib.Nat.{zero-add}
 use native.Mathlib.Omega.{arith}
-use lib.ListN.{length, getD, drop, length-append, length-drop, length-map, List·getD-append}
+use lib.ListN.{length, getD, drop, length-append, length-drop, List·getD-append}
 use lib.Seq.{ext-getD, getD-append-add, getD-drop}
 use Rattle.kit.specs.Lists.{from}
 use Rattle.kit.specs.Table.{Holds}
-use Rattle.kit.proofs.Lists.{length-from, map-from-at}
+use Rattle.kit.proofs.Lists.{made-length, made-at}
 
 module _ {A : Type 0} (d : A) (n : ℕ) (f : ℕ → A) where
   -- two contents that it allows are equal
@@ -25,13 +24,13 @@ module _ {A : Type 0} (d : A) (n : ℕ) (f : ℕ → A) where
   filled b = map f (from 0 n) ++ drop n b
 
   wide : length (map f (from 0 n)) ≡ n
-  wide = length-map (from 0 n) f ∙ length-from 0 n
+  wide = made-length f n 0
 
   pub filled-holds : (b : List A) → n ≤ length b → Holds d n f b (filled b)
   filled-holds b room =
       record {
         long = length-append (map f (from 0 n)) (drop n b) ∙ (let u = wide in let v = length-drop n b in omega arith);
-        cells = λ i l. List·getD-append (map f (from 0 n)) (drop n b) d i (let u = wide in omega arith) ∙ map-from-at f d 0 n i l ∙ ap f (zero-add i);
+        cells = λ i l. List·getD-append (map f (from 0 n)) (drop n b) d i (let u = wide in omega arith) ∙ made-at f d n i l;
         rest = λ i l.
             let e : i ≡ length (map f (from 0 n)) + (i - n) = let u = wide in omega arith in
             let g : n + (i - n) ≡ i = omega arith in

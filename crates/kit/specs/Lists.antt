@@ -45,6 +45,11 @@ conj (b ∷ l) = b && conj l
 abbrev pub among : ℕ → List ℕ → Bool
 among c l = any (eqb c) l
 
+-- how many of these stand before c; all of them where c is none
+abbrev pub placeAmong : ℕ → List ℕ → ℕ
+placeAmong c [] = 0
+placeAmong c (x ∷ l) = cond (eqb c x) 0 (suc (placeAmong c l))
+
 -- the same text
 abbrev pub same : List ℕ → List ℕ → Bool
 same [] [] = true

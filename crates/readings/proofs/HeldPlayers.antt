@@ -10,7 +10,7 @@ use Rattle.kit.specs.Lists.{from, flat}
 use Rattle.kit.specs.First.{AllOf}
 use Rattle.kit.specs.Table.{Holds}
 use Rattle.kit.proofs.Firsts.{all-of-map}
-use Rattle.kit.proofs.Lists.{map-from-at, all-from, flat-length, flat-at}
+use Rattle.kit.proofs.Lists.{map-from-at, made-length, made-at, all-from, flat-length, flat-at}
 use Rattle.kit.proofs.Tables.{holds-same}
 use Rattle.law.specs.Sizes.{mostPlayers}
 use Rattle.law.specs.Columns.{width}
@@ -22,7 +22,6 @@ use Rattle.law.proofs.ReadsOnce.{Rooms}
 use Rattle.join.specs.Check.{entryCell}
 use Rattle.readings.specs.Good.{Unused, UnusedEntries, keptAt, nineOf}
 use Rattle.readings.specs.Held.{heldEntries, heldPlayer}
-use Rattle.readings.proofs.Listed.{made-length, made-at}
 
 -- ---- a player's kept columns and entries
 pub kept-wide : (t : Tables) → Rooms t → (p : ℕ) → p < mostPlayers → length (keptAt (t .kept) p) ≡ width keptField

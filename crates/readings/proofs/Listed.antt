@@ -2,16 +2,14 @@
 use mathlib.Core.Path.{_≡_, refl, sym, ap, _∙_, subst}
 use mathlib.Core.Bool.{Bool, true, false}
 use mathlib.Core.Option.{none}
-use mathlib.Core.List.{List, [], _∷_, _++_, map, append-nil}
+use mathlib.Core.List.{List, [], _∷_, _++_, append-nil}
 use Prim.Native.Nat.{ℕ, zero, suc, _+_, _≤_, _<_}
 use native.Mathlib.Decide.{decLt}
-use native.Mathlib.Nat.{zero-add}
 use native.Mathlib.Omega.{arith}
-use lib.ListN.{length, getD, take, length-map, List·getD-eq-default}
+use lib.ListN.{length, getD, take, List·getD-eq-default}
 use lib.Seq.{append-snoc, getD-take, length-take-le, ext-getD}
-use Rattle.kit.specs.Lists.{all, eachAfter, from}
+use Rattle.kit.specs.Lists.{all, eachAfter}
 use Rattle.kit.proofs.Bools.{clash, and, both, not-so}
-use Rattle.kit.proofs.Lists.{length-from, map-from-at}
 use Rattle.join.specs.Grid.{firstFrom, someBelow}
 use Rattle.join.proofs.Firsts.{some-at}
 use Rattle.readings.specs.Good.{Unused}
@@ -65,11 +63,3 @@ module _ {A : Type 0} (d : A) (n m : ℕ) (l : List A) where
     taken-is room few =
         let z = length-take-le n l (omega arith) in
         ext-getD d (take n l) k (z ∙ long) (λ i a. getD-take n l i d (omega arith) ∙ same i (omega arith))
-
--- ---- a list that is made of n numbers in a row
-module _ {A : Type 0} (f : ℕ → A) where
-  pub made-length : (n i : ℕ) → length (map f (from i n)) ≡ n
-  made-length n i = length-map (from i n) f ∙ length-from i n
-
-  pub made-at : (d : A) (n i : ℕ) → i < n → getD (map f (from 0 n)) i d ≡ f i
-  made-at d n i l = map-from-at f d 0 n i l ∙ ap f (zero-add i)

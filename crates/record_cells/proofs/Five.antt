@@ -2,13 +2,12 @@
 use mathlib.Core.Path.{_≡_, refl, sym, ap, _∙_}
 use mathlib.Core.List.{List}
 use Prim.Native.Nat.{ℕ, _+_, _*_, _<_, _≤_}
-use native.Mathlib.Nat.{zero-add}
 use native.Mathlib.Decide.{ℕ-discrete}
 use native.Mathlib.Omega.{arith}
 use lib.ListN.{length, getD, set, replicate, length-set}
 use lib.Seq.{ext-getD, getD-set-same, getD-set-other}
 use Rattle.types.specs.declared.Acceleration.{Acceleration}
-use Rattle.kit.proofs.Lists.{map-from-at}
+use Rattle.kit.proofs.Lists.{made-at}
 use Rattle.law.specs.Sizes.{mostAccelerations}
 use Rattle.law.specs.Lawful.{noAcceleration}
 use Rattle.record_cells.specs.Cells.{recordCells, recordAt, recordsOf}
@@ -19,7 +18,7 @@ records-long cells = refl
 
 pub record-at : (cells : List ℕ) (j : ℕ) → j < mostAccelerations → getD (recordsOf cells) j noAcceleration ≡ recordAt cells j
 unfolding recordsOf
-record-at cells j l = map-from-at (recordAt cells) noAcceleration 0 mostAccelerations j l ∙ ap (recordAt cells) (zero-add j)
+record-at cells j l = made-at (recordAt cells) noAcceleration mostAccelerations j l
 
 pub no-records : recordsOf (replicate recordCells 0) ≡ replicate mostAccelerations noAcceleration
 unfolding recordsOf

@@ -14,6 +14,7 @@ use borrow.Author.Tests.{eq-eqb, eqb-true, ltb-true}
 use Rattle.kit.specs.Lists.{all, among, isEmpty, eachAfter}
 use Rattle.kit.specs.Decides.{to, when, keep, cons}
 use Rattle.kit.proofs.Bools.{clash, and, both, both-ways}
+use Rattle.kit.proofs.Places.{place-first}
 use Rattle.kit.proofs.Decided.{when-inv, cons-nil}
 use Rattle.law.specs.Columns.{blank, isBlank, cells, elseBlank, afterCode}
 use Rattle.law.specs.Scoring.{lettersOf, letters, slotFields, values, defaults, givenOr, ownWin, ownDraw, scoringOf, lettersDiffer}
@@ -31,16 +32,7 @@ use Rattle.fields.proofs.Cases.{never, standing, stands-is, is-standing}
 -- ---- letters
 pub letter-is : (c : ℕ) → among c letters ≡ ltb (letterPlace c) 6
 unfolding letterPlace
-letter-is c = go (eqb c (code "W")) (eqb c (code "D")) (eqb c (code "L")) (eqb c (code "A")) (eqb c (code "P")) (eqb c (code "X"))
-  where
-    go : (w d l a p x : Bool) → w || (d || (l || (a || (p || (x || false))))) ≡ ltb (cond w 0 (cond d 1 (cond l 2 (cond a 3 (cond p 4 (cond x 5 6)))))) 6
-    go true d l a p x = refl
-    go false true l a p x = refl
-    go false false true a p x = refl
-    go false false false true p x = refl
-    go false false false false true x = refl
-    go false false false false false true = refl
-    go false false false false false false = refl
+letter-is c = sym (place-first c letters [])
 
 each-letter : (P : ℕ → Type 0) → P (code "W") → P (code "D") → P (code "L") → P (code "A") → P (code "P") → P (code "X") → (c : ℕ) → among c letters ≡ true → P c
 each-letter P w d l a p x c h = go (one-of letters c h)

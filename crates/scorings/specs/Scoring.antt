@@ -3,10 +3,9 @@ use mathlib.Core.Bool.{Bool, true, false, cond, not}
 use mathlib.Core.Option.{Option}
 use mathlib.Core.List.{List, map}
 use Prim.Native.Nat.{ℕ}
-use Prim.Native.Char.{code}
 use lib.Dec.{eqb}
 use lib.ListN.{replicate}
-use Rattle.kit.specs.Lists.{among, isEmpty}
+use Rattle.kit.specs.Lists.{among, placeAmong, isEmpty}
 use Rattle.kit.specs.Decides.{keep}
 use Rattle.law.specs.Columns.{part}
 use Rattle.law.specs.Scoring as law
@@ -17,11 +16,9 @@ use Rattle.scorings.specs.declared.Value.the-variants as value
 use Rattle.scorings.specs.declared.Given.{Given}
 use Rattle.scorings.specs.declared.Scored.{Scored}
 
--- the place of a letter among W D L A P X
+-- the place of a letter among W D L A P X; 6 for any other byte
 unfoldable pub letterPlace : ℕ → ℕ
-letterPlace c =
-    cond (eqb c (code "W")) 0
-    (cond (eqb c (code "D")) 1 (cond (eqb c (code "L")) 2 (cond (eqb c (code "A")) 3 (cond (eqb c (code "P")) 4 (cond (eqb c (code "X")) 5 6)))))
+letterPlace c = placeAmong c law.letters
 
 -- the letter's place, and the points
 abbrev pub valueSays : Value → Said (ℕ × ℕ)
