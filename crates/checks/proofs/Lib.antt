@@ -1,3 +1,2 @@
-pub mod Opposite
 pub mod Flags
 pub mod Kept

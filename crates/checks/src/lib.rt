@@ -7,7 +7,7 @@ ghost use Prim.Native.Nat.{ℕ, _*_, _≤_, _<_};
 ghost use lib.ListN.{length};
 ghost use Rattle.kit.specs.Lists.{among};
 ghost use Rattle.law.specs.Sizes.{mostPlayers, mostRounds};
-ghost use Rattle.law.specs.Players.{byeResults, gameColours, gameResults};
+ghost use Rattle.law.specs.Players.{gameColours};
 ghost use Rattle.law.specs.Entries as entries;
 ghost use Rattle.law.specs.Entries.{bye-or-game, mutual-pairing, fitting-results, one-U};
 ghost use Rattle.law.specs.Tables.{entryCells};
@@ -15,41 +15,24 @@ ghost use Rattle.join.specs.Grid.{firstFrom};
 ghost use Rattle.join.specs.Check.{placeAt, roundAt, isGameBy, hasUAt, keepsCell, brokenCell};
 ghost use Rattle.turns.specs.Found.{asFoundTurn};
 ghost use Rattle.index.specs.Index.{asPlaced, Indexed, IsIndex};
+ghost use Rattle.results.specs.Places.{IsGrid, ArePlaces};
 ghost use Rattle.checks.specs.Results.{entry};
 ghost use Rattle.checks.specs.Laws.{asLaw, four, Long};
 use index::Placed;
 use index::START_CELLS;
+use results::BYTES;
+use results::GAMES;
 use turns::FoundTurn;
 use turns::Turn;
 use types::MOST_ROUNDS;
 use types::Place;
 use types::StartNumber;
 
-// Whether two results are those of one game: for each result, what may stand opposite.
-fn fits(a: u8, b: u8) -> bool
-    ensures { λ r. ⌜ r ≡ entries.fits a b ⌝ }
-{
-    ((a == b'1') & (b == b'0'))
-        | ((a == b'=') & ((b == b'=') | (b == b'0')))
-        | ((a == b'0') & ((b == b'1') | (b == b'=') | (b == b'0')))
-        | ((a == b'W') & (b == b'L'))
-        | ((a == b'D') & (b == b'D'))
-        | ((a == b'L') & (b == b'W'))
-        | ((a == b'+') & (b == b'-'))
-        | ((a == b'-') & ((b == b'+') | (b == b'-')))
-}
-
-fn is_bye_result(result: u8) -> bool
-    ensures { λ r. ⌜ r ≡ among result byeResults ⌝ }
-{
-    (result == b'H') | (result == b'F') | (result == b'U') | (result == b'Z')
-}
-
 // Whether an entry is a bye. id: the opponent's start number, 0 if there is none.
 pub fn is_bye(id: StartNumber, colour: u8, result: u8) -> bool
     ensures { λ r. ⌜ r ≡ entries.isBye (entry (id .0) colour result) ⌝ }
 {
-    let of_bye = is_bye_result(result);
+    let of_bye = results::is_bye_result(result);
     (id.0 == 0) & (colour == b'-') & of_bye
 }
 
@@ -67,19 +50,6 @@ fn is_game_colour(colour: u8) -> bool
     (colour == b'w') | (colour == b'b')
 }
 
-fn is_game_result(result: u8) -> bool
-    ensures { λ r. ⌜ r ≡ among result gameResults ⌝ }
-{
-    (result == b'1')
-        | (result == b'=')
-        | (result == b'0')
-        | (result == b'W')
-        | (result == b'D')
-        | (result == b'L')
-        | (result == b'+')
-        | (result == b'-')
-}
-
 // Whether an entry of the player with a start number is a game. opponent: whom its id names.
 fn is_game(id: StartNumber, colour: u8, result: u8, start: StartNumber, opponent: Placed) -> bool
     ensures { λ r. ⌜ ((o : Option ℕ) → opponent ≡ asPlaced o → r ≡ isGameBy (entry (id .0) colour result) (start .0) o) ⌝ }
@@ -88,7 +58,7 @@ fn is_game(id: StartNumber, colour: u8, result: u8, start: StartNumber, opponent
         return false;
     };
     let of_colour = is_game_colour(colour);
-    let of_result = is_game_result(result);
+    let of_result = results::is_game_result(result);
     (id.0 != start.0) & of_colour & of_result
 }
 
@@ -150,9 +120,12 @@ fn keeps_fitting(
     opponents: &[u32],
     results: &[u8],
     index: &[u8; START_CELLS],
+    grid: &[[bool; GAMES]; GAMES],
+    places: &[u8; BYTES],
 ) -> bool
     requires { ⌜ (place .0 < mostPlayers) × (1 ≤ round) × (round ≤ mostRounds) ⌝ }
     requires { ⌜ (entryCells ≤ length (now opponents)) × (entryCells ≤ length (now results)) × IsIndex (now index) ⌝ }
+    requires { ⌜ IsGrid (now grid) × ArePlaces (now places) ⌝ }
     ensures { λ r. ⌜ ((n : ℕ) (starts colours : List ℕ) → Indexed starts n (now (index .entry)) → r ≡ keepsCell fitting-results n (four starts (now (opponents .entry)) colours (now (results .entry))) (place .0) round) ⌝ }
 {
     let i = tables::cell_of(place, round);
@@ -162,7 +135,7 @@ fn keeps_fitting(
         return true;
     };
     let j = tables::cell_of(other, round);
-    fits(results[i], results[j])
+    results::fits(grid, places, results[i], results[j])
 }
 
 // Whether an entry keeps a law, of those that are asked of the entry and its opponent's alone.
@@ -175,10 +148,13 @@ fn keeps_at(
     colours: &[u8],
     results: &[u8],
     index: &[u8; START_CELLS],
+    grid: &[[bool; GAMES]; GAMES],
+    places: &[u8; BYTES],
 ) -> bool
     requires { ⌜ (kind ≡ LawKind.OneU → ⊥) ⌝ }
     requires { ⌜ (place .0 < mostPlayers) × (1 ≤ round) × (round ≤ mostRounds) ⌝ }
     requires { ⌜ Long (now starts) (now opponents) (now colours) (now results) × IsIndex (now index) ⌝ }
+    requires { ⌜ IsGrid (now grid) × ArePlaces (now places) ⌝ }
     ensures { λ r. ⌜ ((n : ℕ) → Indexed (now (starts .entry)) n (now (index .entry)) → r ≡ keepsCell (asLaw kind) n (four (now (starts .entry)) (now (opponents .entry)) (now (colours .entry)) (now (results .entry))) (place .0) round) ⌝ }
 {
     match kind {
@@ -186,7 +162,7 @@ fn keeps_at(
             keeps_bye_or_game(place, round, starts, opponents, colours, results, index)
         }
         LawKind::Mutual => keeps_mutual(place, round, starts, opponents, colours, index),
-        LawKind::Fitting => keeps_fitting(place, round, opponents, results, index),
+        LawKind::Fitting => keeps_fitting(place, round, opponents, results, index, grid, places),
         LawKind::OneU => true,
     }
 }
@@ -201,10 +177,13 @@ fn is_broken(
     colours: &[u8],
     results: &[u8],
     index: &[u8; START_CELLS],
+    grid: &[[bool; GAMES]; GAMES],
+    places: &[u8; BYTES],
 ) -> bool
     requires { ⌜ (kind ≡ LawKind.OneU → ⊥) ⌝ }
     requires { ⌜ turn .0 < entryCells ⌝ }
     requires { ⌜ Long (now starts) (now opponents) (now colours) (now results) × IsIndex (now index) ⌝ }
+    requires { ⌜ IsGrid (now grid) × ArePlaces (now places) ⌝ }
     ensures { λ r. ⌜ ((n : ℕ) → Indexed (now (starts .entry)) n (now (index .entry)) → r ≡ brokenCell (asLaw kind) n rounds (four (now (starts .entry)) (now (opponents .entry)) (now (colours .entry)) (now (results .entry))) (turn .0)) ⌝ }
 {
     let place = turns::place_at(turn);
@@ -221,6 +200,8 @@ fn is_broken(
         colours,
         results,
         index,
+        grid,
+        places,
     )
 }
 
@@ -232,11 +213,14 @@ fn first_unkept(
     colours: &[u8],
     results: &[u8],
     index: &[u8; START_CELLS],
+    grid: &[[bool; GAMES]; GAMES],
+    places: &[u8; BYTES],
     n: usize,
     rounds: u32,
 ) -> FoundTurn
     requires { ⌜ (kind ≡ LawKind.OneU → ⊥) ⌝ }
     requires { ⌜ Long (now starts) (now opponents) (now colours) (now results) × Indexed (now starts) n (now index) ⌝ }
+    requires { ⌜ IsGrid (now grid) × ArePlaces (now places) ⌝ }
     ensures { λ r. ⌜ r ≡ asFoundTurn (firstFrom (brokenCell (asLaw kind) n rounds (four (now (starts .entry)) (now (opponents .entry)) (now (colours .entry)) (now (results .entry)))) 0 (n * mostRounds)) ⌝ }
 {
     let end = n * MOST_ROUNDS;
@@ -252,6 +236,8 @@ fn first_unkept(
             colours,
             results,
             index,
+            grid,
+            places,
         ) {
             return FoundTurn::At(turn);
         }
@@ -268,7 +254,7 @@ fn has_u(results: &[u8], turn: Turn) -> bool
     let place = turns::place_at(turn);
     let round = turns::round_at(turn);
     let i = tables::cell_of(place, round);
-    results[i] == b'U'
+    results::is_allocated(results[i])
 }
 
 // The first turn with a U in a round in which an earlier player has one: a flag for each round says whether one had.
@@ -310,5 +296,18 @@ pub fn first_broken(
     if let LawKind::OneU = kind {
         return first_second_u(results, n, rounds);
     }
-    first_unkept(kind, starts, opponents, colours, results, index, n, rounds)
+    let grid = results::grid();
+    let places = results::places();
+    first_unkept(
+        kind,
+        starts,
+        opponents,
+        colours,
+        results,
+        index,
+        &grid,
+        &places,
+        n,
+        rounds,
+    )
 }

@@ -3,22 +3,24 @@
 // of join says. A search is one loop over its cells, player by player and each round by round; the closing pass has a function for one player.
 ghost use mathlib.Core.Path.{_≡_};
 ghost use mathlib.Core.Bool.{true, cond, _&&_};
-ghost use Prim.Native.Nat.{_*_, _≤_, _<_, max};
+ghost use mathlib.Core.List.{List};
+ghost use Prim.Native.Nat.{ℕ, _*_, _≤_, _<_, max};
 ghost use lib.Dec.{eqb, leb};
 ghost use lib.ListN.{length, getD};
-ghost use Rattle.kit.specs.Ascii.{ascii};
-ghost use Rattle.kit.specs.Lists.{among};
 ghost use Rattle.kit.specs.Table.{Holds};
 ghost use Rattle.law.specs.Sizes.{mostPlayers, mostRounds, mostAccelerations};
 ghost use Rattle.law.specs.Accelerations as accelerations;
 ghost use Rattle.law.specs.Tables.{entryCells};
 ghost use Rattle.join.specs.Grid.{firstFrom};
-ghost use Rattle.join.specs.Check.{isSeen, roundSeen, roundsSeen, pastCell, sharedRecord, closing, worthBy, sumAt, wrongSum};
+ghost use Rattle.join.specs.Check.{isSeen, roundSeen, roundsSeen, pastCell, sharedRecord, closing, sumAt, wrongSum};
 ghost use Rattle.index.specs.Index.{asPlaced};
 ghost use Rattle.turns.specs.Found.{asFoundTurn, asFoundRecord};
-ghost use Rattle.closings.specs.Values.{areSmall};
+ghost use Rattle.results.specs.Places.{ArePlaces, AreWorths};
+ghost use Rattle.closings.specs.Values.{areSmall, SmallWorths};
 ghost use Rattle.closings.specs.Closing.{ClosesRow};
 use index::Placed;
+use results::BYTES;
+use results::WORTHS;
 use turns::FoundRecord;
 use turns::FoundTurn;
 use turns::RecordNumber;
@@ -27,6 +29,7 @@ use types::Acceleration;
 use types::MOST_ACCELERATIONS;
 use types::MOST_ROUNDS;
 use types::Place;
+use types::VALUES;
 
 // Whether the cell of a turn holds anything.
 fn is_seen(colours: &[u8], turn: Turn) -> bool
@@ -187,80 +190,52 @@ pub fn close(t: &mut [u8], n: usize, rounds: u32, letter: u8)
     }
 }
 
-// The results that earn each of the values.
-fn earns_win(result: u8) -> bool
-    ensures { λ r. ⌜ r ≡ among result (ascii "1W+F") ⌝ }
-{
-    (result == b'1') | (result == b'W') | (result == b'+') | (result == b'F')
-}
-
-fn earns_draw(result: u8) -> bool
-    ensures { λ r. ⌜ r ≡ among result (ascii "=DH") ⌝ }
-{
-    (result == b'=') | (result == b'D') | (result == b'H')
-}
-
-fn earns_loss(result: u8) -> bool
-    ensures { λ r. ⌜ r ≡ among result (ascii "0L") ⌝ }
-{
-    (result == b'0') | (result == b'L')
-}
-
-fn earns_absent(result: u8) -> bool
-    ensures { λ r. ⌜ r ≡ among result (ascii "-Z") ⌝ }
-{
-    (result == b'-') | (result == b'Z')
-}
-
-fn earns_pairing(result: u8) -> bool
-    ensures { λ r. ⌜ r ≡ among result (ascii "U") ⌝ }
-{
-    result == b'U'
-}
-
-// What a result earns by the values of W D L A P X.
-fn worth(values: [u32; 6], result: u8) -> u32
-    ensures { λ r. ⌜ r ≡ worthBy values result ⌝ }
-{
-    if earns_win(result) {
-        return values[0];
-    }
-    if earns_draw(result) {
-        return values[1];
-    }
-    if earns_loss(result) {
-        return values[2];
-    }
-    if earns_absent(result) {
-        return values[3];
-    }
-    if earns_pairing(result) {
-        return values[4];
-    }
-    0
-}
-
-// What a player earned in the first rounds.
-pub fn sum_of(results: &[u8], values: [u32; 6], place: Place, rounds: u32) -> u32
-    requires { ⌜ (place .0 < mostPlayers) × (rounds ≤ mostRounds) × (entryCells ≤ length (now results)) × (areSmall values ≡ true) ⌝ }
-    ensures { λ r. ⌜ r ≡ sumAt values (now (results .entry)) (place .0) rounds ⌝ }
+// What a player earned in the first rounds. worths: what each result earns.
+fn sum_by(
+    results: &[u8],
+    worths: &[u32; WORTHS],
+    places: &[u8; BYTES],
+    place: Place,
+    rounds: u32,
+) -> u32
+    requires { ⌜ (place .0 < mostPlayers) × (rounds ≤ mostRounds) × (entryCells ≤ length (now results)) ⌝ }
+    requires { ⌜ SmallWorths (now worths) × ArePlaces (now places) ⌝ }
+    ensures { λ r. ⌜ ((values : List ℕ) → AreWorths values (now (worths .entry)) → r ≡ sumAt values (now (results .entry)) (place .0) rounds) ⌝ }
 {
     let mut sum = 0;
     let mut j = 0;
     while j < rounds {
         let i = tables::cell_of(place, j + 1);
-        sum += worth(values, results[i]);
+        sum += results::worth(worths, places, results[i]);
         j += 1;
     }
     sum
 }
 
-// Whether a player's stated points are not the sum.
-fn is_wrong_sum(points: &[u32], results: &[u8], values: [u32; 6], place: Place, rounds: u32) -> bool
-    requires { ⌜ (place .0 < mostPlayers) × (rounds ≤ mostRounds) × (mostPlayers ≤ length (now points)) × (entryCells ≤ length (now results)) × (areSmall values ≡ true) ⌝ }
-    ensures { λ r. ⌜ r ≡ wrongSum values (now (points .entry)) (now (results .entry)) rounds (place .0) ⌝ }
+// The same by the values of W D L A P X.
+pub fn sum_of(results: &[u8], values: [u32; VALUES], place: Place, rounds: u32) -> u32
+    requires { ⌜ (place .0 < mostPlayers) × (rounds ≤ mostRounds) × (entryCells ≤ length (now results)) × (areSmall values ≡ true) ⌝ }
+    ensures { λ r. ⌜ r ≡ sumAt values (now (results .entry)) (place .0) rounds ⌝ }
 {
-    let sum = sum_of(results, values, place, rounds);
+    let worths = results::worths(values);
+    let places = results::places();
+    sum_by(results, &worths, &places, place, rounds)
+}
+
+// Whether a player's stated points are not the sum.
+fn is_wrong_sum(
+    points: &[u32],
+    results: &[u8],
+    worths: &[u32; WORTHS],
+    places: &[u8; BYTES],
+    place: Place,
+    rounds: u32,
+) -> bool
+    requires { ⌜ (place .0 < mostPlayers) × (rounds ≤ mostRounds) × (mostPlayers ≤ length (now points)) × (entryCells ≤ length (now results)) ⌝ }
+    requires { ⌜ SmallWorths (now worths) × ArePlaces (now places) ⌝ }
+    ensures { λ r. ⌜ ((values : List ℕ) → AreWorths values (now (worths .entry)) → r ≡ wrongSum values (now (points .entry)) (now (results .entry)) rounds (place .0)) ⌝ }
+{
+    let sum = sum_by(results, worths, places, place, rounds);
     let i = tables::own_cell(place);
     points[i] != sum
 }
@@ -269,17 +244,19 @@ fn is_wrong_sum(points: &[u32], results: &[u8], values: [u32; 6], place: Place, 
 pub fn first_wrong_sum(
     points: &[u32],
     results: &[u8],
-    values: [u32; 6],
+    values: [u32; VALUES],
     n: usize,
     rounds: u32,
 ) -> Placed
     requires { ⌜ (n ≤ mostPlayers) × (rounds ≤ mostRounds) × (mostPlayers ≤ length (now points)) × (entryCells ≤ length (now results)) × (areSmall values ≡ true) ⌝ }
     ensures { λ r. ⌜ r ≡ asPlaced (firstFrom (wrongSum values (now (points .entry)) (now (results .entry)) rounds) 0 n) ⌝ }
 {
+    let worths = results::worths(values);
+    let places = results::places();
     let mut p = 0;
     while p < n {
         let place = Place(p as u32);
-        if is_wrong_sum(points, results, values, place, rounds) {
+        if is_wrong_sum(points, results, &worths, &places, place, rounds) {
             return Placed::At(place);
         }
         p += 1;

@@ -1,35 +1,18 @@
--- What one look at the entries tells: of two results; when it says yes, of an entry, of a player's, of all, and of U. Means: no part of the statement.
+-- What one look at the entries tells when it says yes: of an entry, of a player's, of all, and of U. Means: no part of the statement.
 use mathlib.Core.Path.{_≡_}
-use mathlib.Core.Bool.{Bool, true, false, _&&_, _||_, not}
-use mathlib.Core.List.{List, [], _∷_}
+use mathlib.Core.Bool.{Bool, true, false, _&&_, _||_}
+use mathlib.Core.List.{List}
 use Prim.Native.Nat.{ℕ, _+_, _≤_, _<_}
 use lib.Dec.{eqb}
 use lib.ListN.{length, getD}
-use Rattle.kit.specs.Ascii.{ascii}
-use Rattle.kit.specs.Lists.{among, isOneOf}
+use Rattle.kit.specs.Lists.{among}
 use Rattle.law.specs.Sizes.{mostRounds}
 use Rattle.law.specs.Players.{gameColours}
-use Rattle.law.specs.Entries.{fits, bye-or-game, mutual-pairing, fitting-results}
+use Rattle.law.specs.Entries.{bye-or-game, mutual-pairing, fitting-results}
 use Rattle.law.specs.Tables.{cellOf}
 use Rattle.join.specs.Grid.{someBelow}
 use Rattle.join.specs.Store.{Nine}
 use Rattle.join.specs.Check.{hasUAt, keepsCell}
-
--- ---- two results of a game, the player's own first: those that fit and seldom stand opposite each other
-abbrev pub seldomPairs : List (List ℕ)
-seldomPairs = ascii "--" ∷ ascii "00" ∷ ascii "=0" ∷ ascii "0=" ∷ []
-
-abbrev pub isSeldom : ℕ → ℕ → Bool
-isSeldom result theirs = isOneOf (result ∷ theirs ∷ []) seldomPairs
-
--- what a table with a cell for each byte shows: what a result's cell has and, where that is not 0, what is seldom
-abbrev pub shows : List ℕ → ℕ → ℕ → Bool
-shows cells result theirs = not (eqb (getD cells result 0) 0) && (eqb theirs (getD cells result 0) || isSeldom result theirs)
-
--- a table that shows what fits
-pub record Answers (cells : List ℕ) : Type 0 where
-  pub long : length cells ≡ 256
-  pub each : (result theirs : ℕ) → result < 256 → shows cells result theirs ≡ fits result theirs
 
 -- two colours of one game
 abbrev pub Opposite : ℕ → ℕ → Type 0

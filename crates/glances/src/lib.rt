@@ -7,62 +7,21 @@ ghost use mathlib.Core.List.{List};
 ghost use Prim.Native.Nat.{ℕ, _*_, _≤_, _<_};
 ghost use lib.ListN.{length, getD};
 ghost use Rattle.law.specs.Sizes.{mostPlayers, mostRounds};
-ghost use Rattle.law.specs.Entries.{Law, fits};
+ghost use Rattle.law.specs.Entries.{Law};
 ghost use Rattle.law.specs.Tables.{entryCells};
 ghost use Rattle.join.specs.Grid.{firstFrom};
 ghost use Rattle.join.specs.Check.{pastCell, brokenCell};
 ghost use Rattle.index.specs.Index.{Indexed, IsIndex};
+ghost use Rattle.results.specs.Places.{IsGrid, ArePlaces};
 ghost use Rattle.checks.specs.Laws.{four, Long};
-ghost use Rattle.glances.specs.Glance.{isSeldom, Answers, Opposite, KeepsEntry, KeepsRow, KeepsRows, Noted, OnceU, BlankRow};
+ghost use Rattle.glances.specs.Glance.{Opposite, KeepsEntry, KeepsRow, KeepsRows, Noted, OnceU, BlankRow};
 use index::Placed;
 use index::START_CELLS;
+use results::BYTES;
+use results::GAMES;
 use types::MOST_ROUNDS;
 use types::Place;
 use types::StartNumber;
-
-// A cell for each byte.
-const BYTES: usize = 256;
-
-// The result that mostly stands opposite each result of a game, at its byte; 0 at every other. Made once for all entries.
-fn answer_table() -> [u8; BYTES]
-    ensures { λ r. ⌜ Answers r ⌝ }
-{
-    let mut answers = [0u8; BYTES];
-    answers[b'1' as usize] = b'0';
-    answers[b'0' as usize] = b'1';
-    answers[b'=' as usize] = b'=';
-    answers[b'W' as usize] = b'L';
-    answers[b'L' as usize] = b'W';
-    answers[b'D' as usize] = b'D';
-    answers[b'+' as usize] = b'-';
-    answers[b'-' as usize] = b'+';
-    answers
-}
-
-// Whether two results are of the few that fit and seldom stand opposite each other: nobody came, or the arbiter set them.
-fn is_seldom(result: u8, theirs: u8) -> bool
-    ensures { λ r. ⌜ r ≡ isSeldom result theirs ⌝ }
-{
-    ((result == b'-') & (theirs == b'-'))
-        | ((result == b'0') & (theirs == b'0'))
-        | ((result == b'=') & (theirs == b'0'))
-        | ((result == b'0') & (theirs == b'='))
-}
-
-// Whether two results are those of one game.
-fn are_one_game(result: u8, theirs: u8, answers: &[u8; BYTES]) -> bool
-    requires { ⌜ Answers (now answers) ⌝ }
-    ensures { λ r. ⌜ r ≡ fits result theirs ⌝ }
-{
-    let answer = answers[result as usize];
-    if answer == 0 {
-        return false;
-    }
-    if theirs == answer {
-        return true;
-    }
-    is_seldom(result, theirs)
-}
 
 // Whether two colours are those of one game.
 fn are_opposite(colour: u8, theirs: u8) -> bool
@@ -84,10 +43,12 @@ fn keeps_entry(
     colours: &[u8],
     results: &[u8],
     index: &[u8; START_CELLS],
-    answers: &[u8; BYTES],
+    grid: &[[bool; GAMES]; GAMES],
+    places: &[u8; BYTES],
 ) -> bool
     requires { ⌜ (place .0 < mostPlayers) × (1 ≤ round) × (round ≤ mostRounds) ⌝ }
-    requires { ⌜ (entryCells ≤ length (now opponents)) × (entryCells ≤ length (now colours)) × (entryCells ≤ length (now results)) × IsIndex (now index) × Answers (now answers) ⌝ }
+    requires { ⌜ (entryCells ≤ length (now opponents)) × (entryCells ≤ length (now colours)) × (entryCells ≤ length (now results)) × IsIndex (now index) ⌝ }
+    requires { ⌜ IsGrid (now grid) × ArePlaces (now places) ⌝ }
     ensures { λ r. ⌜ (r ≡ true → (starts : List ℕ) (n : ℕ) → getD starts (place .0) 0 ≡ start .0 → Indexed starts n (now (index .entry)) → KeepsEntry n (four starts (now (opponents .entry)) (now (colours .entry)) (now (results .entry))) (place .0) round) ⌝ }
 {
     let i = tables::cell_of(place, round);
@@ -109,7 +70,7 @@ fn keeps_entry(
     if !are_opposite(colour, colours[j]) {
         return false;
     }
-    are_one_game(result, results[j], answers)
+    results::fits(grid, places, result, results[j])
 }
 
 // Whether a player's entries do, up to a round.
@@ -120,11 +81,13 @@ fn keeps_row(
     colours: &[u8],
     results: &[u8],
     index: &[u8; START_CELLS],
-    answers: &[u8; BYTES],
+    grid: &[[bool; GAMES]; GAMES],
+    places: &[u8; BYTES],
     rounds: u32,
 ) -> bool
     requires { ⌜ (place .0 < mostPlayers) × (rounds ≤ mostRounds) ⌝ }
-    requires { ⌜ Long (now starts) (now opponents) (now colours) (now results) × IsIndex (now index) × Answers (now answers) ⌝ }
+    requires { ⌜ Long (now starts) (now opponents) (now colours) (now results) × IsIndex (now index) ⌝ }
+    requires { ⌜ IsGrid (now grid) × ArePlaces (now places) ⌝ }
     ensures { λ r. ⌜ (r ≡ true → (n : ℕ) → Indexed (now (starts .entry)) n (now (index .entry)) → KeepsRow n (four (now (starts .entry)) (now (opponents .entry)) (now (colours .entry)) (now (results .entry))) (place .0) rounds) ⌝ }
 {
     let start = tables::start_at(starts, place);
@@ -138,7 +101,8 @@ fn keeps_row(
             colours,
             results,
             index,
-            answers,
+            grid,
+            places,
         ) {
             return false;
         }
@@ -154,12 +118,14 @@ fn keeps_rows(
     colours: &[u8],
     results: &[u8],
     index: &[u8; START_CELLS],
-    answers: &[u8; BYTES],
+    grid: &[[bool; GAMES]; GAMES],
+    places: &[u8; BYTES],
     n: usize,
     rounds: u32,
 ) -> bool
-    requires { ⌜ (rounds ≤ mostRounds) × Answers (now answers) ⌝ }
+    requires { ⌜ rounds ≤ mostRounds ⌝ }
     requires { ⌜ Long (now starts) (now opponents) (now colours) (now results) × Indexed (now starts) n (now index) ⌝ }
+    requires { ⌜ IsGrid (now grid) × ArePlaces (now places) ⌝ }
     ensures { λ r. ⌜ (r ≡ true → KeepsRows n (four (now (starts .entry)) (now (opponents .entry)) (now (colours .entry)) (now (results .entry))) n rounds) ⌝ }
 {
     let mut p = 0;
@@ -172,7 +138,8 @@ fn keeps_rows(
             colours,
             results,
             index,
-            answers,
+            grid,
+            places,
             rounds,
         ) {
             return false;
@@ -191,7 +158,7 @@ fn note_u(results: &[u8], place: Place, seen: &mut [bool; MOST_ROUNDS]) -> bool
     let mut j = 0;
     while j < MOST_ROUNDS {
         let i = tables::cell_of(place, j as u32 + 1);
-        let here = results[i] == b'U';
+        let here = results::is_allocated(results[i]);
         let earlier = seen[j];
         again = again | (here & earlier);
         seen[j] = earlier | here;
@@ -262,14 +229,16 @@ pub fn all_lawful(
     if MOST_ROUNDS < rounds as usize {
         return false;
     }
-    let answers = answer_table();
+    let grid = results::grid();
+    let places = results::places();
     if !keeps_rows(
         starts,
         opponents,
         colours,
         results,
         index,
-        &answers,
+        &grid,
+        &places,
         n,
         rounds,
     ) {

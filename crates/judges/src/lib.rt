@@ -17,6 +17,7 @@ ghost use Rattle.verdicts.specs.Verdict.{asVerdict};
 ghost use Rattle.steps.specs.Counts.{asCount, Small};
 ghost use Rattle.judges.specs.Closing.{isComplete, pastIn, dash, zed, ClosedBy};
 use index::START_CELLS;
+use results::BLANK_BYE;
 use steps::Counts;
 use types::Acceleration;
 use types::LineNumber;
@@ -118,7 +119,7 @@ pub fn finish(
     let n = c.players;
     let past = verdicts::past(colours, lines, n, rounds);
     closings::close(colours, n, rounds, b'-');
-    closings::close(results, n, rounds, b'Z');
+    closings::close(results, n, rounds, BLANK_BYE);
     let verdict = judge(
         c,
         records,

@@ -2,6 +2,7 @@
 // with good false.
 use fields::Number;
 use fields::Points;
+use results::BLANK_BYE;
 use types::KEPT_COLUMNS;
 use types::MOST_RANK;
 use types::MOST_ROUNDS;
@@ -17,7 +18,7 @@ ghost use Rattle.kit.specs.Lists.{all, among};
 ghost use Rattle.kit.specs.Decides.{to};
 ghost use Rattle.law.specs.Sizes.{mostRounds};
 ghost use Rattle.law.specs.Columns.{blank, isBlank, cells, part};
-ghost use Rattle.law.specs.Players.{slotColours, slotResults, capital as capitalOf, keptField};
+ghost use Rattle.law.specs.Players.{slotColours, capital as capitalOf, keptField};
 ghost use Rattle.law.specs.Tournament.{blankAs, normal};
 ghost use Rattle.law.proofs.RecordsRead.{slotOf, playerOf};
 ghost use Rattle.join.specs.Store.{rawCell};
@@ -80,26 +81,15 @@ fn is_slot_colour(c: u8) -> bool
     }
 }
 
-// 0 has an arm of its own: in one arm with 1 the two would be tested as a run, apart from the other bytes.
-fn is_slot_result(c: u8) -> bool
-    ensures { λ r. ⌜ r ≡ among c slotResults ⌝ }
-{
-    match c {
-        b'0' => true,
-        b'1' | b'=' | b'W' | b'D' | b'L' | b'+' | b'-' | b'H' | b'F' | b'U' | b'Z' | b' ' => true,
-        _ => false,
-    }
-}
-
 // The result of a round. Most stand as capitals or signs, so that this is asked first.
 fn result_of(code: u8) -> Letter
     ensures { λ r. ⌜ letterSays r ≡ orBadField (resultIn code) ⌝ }
 {
-    if is_slot_result(code) {
+    if results::is_slot_result(code) {
         return Letter::Value(code);
     }
     let result = capital(code);
-    if !is_slot_result(result) {
+    if !results::is_slot_result(result) {
         return Letter::Bad;
     }
     Letter::Value(result)
@@ -126,7 +116,7 @@ fn blank_as(other: u8, letter: u8) -> u8
 fn bye_of(colour: u8, result: u8) -> Slot
     ensures { λ r. ⌜ slotSays r ≡ says (normal (bye colour result)) ⌝ }
 {
-    Slot::Read(0, blank_as(b'-', colour), blank_as(b'Z', result))
+    Slot::Read(0, blank_as(b'-', colour), blank_as(BLANK_BYE, result))
 }
 
 fn slot_of(line: &[u8], round: usize) -> Slot

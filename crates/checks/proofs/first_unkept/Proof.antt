@@ -11,10 +11,10 @@ use Rattle.checks.proofs.first_unkept.Statement.{statement}
 use Rattle.checks.proofs.first_unkept.Tie as tie
 
 abbrev Inv-loop : tie.InvT-loop
-Inv-loop kind starts opponents colours results index n rounds end k₀ k = Seeking (brokenCell (asLaw kind) n rounds (four starts opponents colours results)) end k
+Inv-loop kind starts opponents colours results index grid places n rounds end k₀ k = Seeking (brokenCell (asLaw kind) n rounds (four starts opponents colours results)) end k
 
 abbrev μ-loop : tie.MeasureT-loop
-μ-loop kind starts opponents colours results index n rounds end k₀ k = end - k
+μ-loop kind starts opponents colours results index grid places n rounds end k₀ k = end - k
 
 mul-end : tie.Need-mul-end Inv-loop μ-loop
 mul-end c = search needs
@@ -25,13 +25,13 @@ loop-holds c = seek-none _ _
 is-broken-requires : tie.Need-is-broken-requires Inv-loop μ-loop
 is-broken-requires c κs =
     let start : tie.Start Inv-loop μ-loop = c .before .before .before .before .before .before in
-    let x = start .pre .1 .1 in
-    (start .pre .0, (omega (arith, c .loop-test .taken, x .few), (start .pre .1 .0, record { starts = start .args .starts .now; players = start .args .n; indexed = x })))
+    let x = start .pre .1 .0 .1 in
+    (start .pre .0, (omega (arith, c .loop-test .taken, x .few), ((start .pre .1 .0 .0, record { starts = start .args .starts .now; players = start .args .n; indexed = x }), start .pre .1 .1)))
 
 returns : tie.Need-returns Inv-loop μ-loop
 returns c =
     let start : tie.Start Inv-loop μ-loop = c .before .before .before .before .before .before .before .before in
-    seek-hit (c .before .before .before .loop .inv) asFoundTurn (c .before .before .loop-test .taken) (sym (c .before .is-broken .ensures (start .args .n) (start .pre .1 .1)) ∙ c .if1 .taken)
+    seek-hit (c .before .before .before .loop .inv) asFoundTurn (c .before .before .loop-test .taken) (sym (c .before .is-broken .ensures (start .args .n) (start .pre .1 .0 .1)) ∙ c .if1 .taken)
 
 add-k : tie.Need-add-k Inv-loop μ-loop
 add-k c = search needs
@@ -42,7 +42,7 @@ loop-less c = search needs
 loop-again : tie.Need-loop-again Inv-loop μ-loop
 loop-again c =
     let start : tie.Start Inv-loop μ-loop = c .before .before .before .before .before .before .before .before in
-    seek-more (c .before .before .before .loop .inv) (c .before .before .loop-test .taken) (sym (c .before .is-broken .ensures (start .args .n) (start .pre .1 .1)) ∙ c .if1 .left)
+    seek-more (c .before .before .before .loop .inv) (c .before .before .loop-test .taken) (sym (c .before .is-broken .ensures (start .args .n) (start .pre .1 .0 .1)) ∙ c .if1 .left)
 
 returns-2 : tie.Need-returns-2 Inv-loop μ-loop
 returns-2 c = seek-end (c .before .loop .inv) asFoundTurn (c .loop-test .left)

@@ -9,11 +9,11 @@ use Rattle.checks.proofs.keeps_fitting.Tie as tie
 cell-of-requires : tie.Need-cell-of-requires
 cell-of-requires c κs = search needs
 
-mul-t11 : tie.Need-mul-t11
-mul-t11 c = search needs
+mul-t13 : tie.Need-mul-t13
+mul-t13 c = search needs
 
-shared-slice-read-t13 : tie.Need-shared-slice-read-t13
-shared-slice-read-t13 c = search needs
+shared-slice-read-t15 : tie.Need-shared-slice-read-t15
+shared-slice-read-t15 c = search needs
 
 place-of-requires : tie.Need-place-of-requires
 place-of-requires c κs = search needs
@@ -30,7 +30,7 @@ returns c = λ n starts colours x. fitting-alone n starts _ colours _ _ _ (c .be
 cell-of-requires-2 : tie.Need-cell-of-requires-2
 cell-of-requires-2 c κs =
     let start : tie.Start = c .before .before .before .before .before .before .before .before in
-    let x = start .pre .1 .2 .indexed in
+    let x = start .pre .1 .0 .2 .indexed in
     let found = told-player _ _ _ (c .before .before .before .place-of .ensures _ _ (x .says) (x .low)) (c .before .opponent .given .1) in
     (omega (arith, x .few, found), start .pre .0 .1, start .pre .0 .2)
 
@@ -53,8 +53,8 @@ keeps-fitting-spec =
     tie.close
     (tie.spec
     cell-of-requires
-    mul-t11
-    shared-slice-read-t13
+    mul-t13
+    shared-slice-read-t15
     place-of-requires
     enum-known-opponent
     enum-told

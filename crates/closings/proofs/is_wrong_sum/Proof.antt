@@ -5,8 +5,8 @@ use Rattle.join.specs.Check.{wrongSum}
 use Rattle.closings.proofs.is_wrong_sum.Statement.{statement}
 use Rattle.closings.proofs.is_wrong_sum.Tie as tie
 
-sum-of-requires : tie.Need-sum-of-requires
-sum-of-requires c κs = search needs
+sum-by-requires : tie.Need-sum-by-requires
+sum-by-requires c κs = search needs
 
 own-cell-requires : tie.Need-own-cell-requires
 own-cell-requires c κs = search needs
@@ -19,9 +19,9 @@ shared-slice-read-result c = search needs
 
 returns : tie.Need-returns
 unfolding wrongSum
-returns c = rw (c .before .before .sum-of .ensures, c .before .own-cell .ensures .0) refl
+returns c = λ values w. rw (c .before .before .sum-by .ensures values w, c .before .own-cell .ensures .0) refl
 
 pub is-wrong-sum-spec : {M : Type 1} → statement M
 is-wrong-sum-spec =
     tie.close
-    (tie.spec sum-of-requires own-cell-requires mul-result shared-slice-read-result returns)
+    (tie.spec sum-by-requires own-cell-requires mul-result shared-slice-read-result returns)

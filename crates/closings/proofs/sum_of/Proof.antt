@@ -1,77 +1,19 @@
--- `closings::sum_of` meets its contract. The loop's invariant: the sum of the first j rounds, at most 999 a round. Assumes nothing.
+-- `closings::sum_of` meets its contract: the worths are those by the values. Assumes nothing.
 use borrow.Author.Needs.{needs}
-use mathlib.Core.Path.{refl, _∙_}
-use Prim.Native.Nat.{_+_, _*_, _-_, _≤_}
-use native.Mathlib.Omega.{arith}
-use lib.ListN.{getD}
-use Rattle.law.specs.Sizes.{mostPoints}
-use Rattle.law.specs.Tables.{cellOf}
-use Rattle.join.specs.Check.{worthBy, sumAt}
-use Rattle.turns.proofs.Seeks.{Adding, add-none, add-more, add-end}
-use Rattle.closings.proofs.Worths.{worth-small}
 use Rattle.closings.proofs.sum_of.Statement.{statement}
 use Rattle.closings.proofs.sum_of.Tie as tie
 
-abbrev Inv-loop : tie.InvT-loop
-Inv-loop results values place rounds sum₀ j₀ sum j =
-    Adding (λ k. worthBy values (getD results (cellOf (place .0) (k + 1)) 0)) rounds j sum × (sum ≤ mostPoints * j)
+worths-requires : tie.Need-worths-requires
+worths-requires c κs = search needs
 
-abbrev μ-loop : tie.MeasureT-loop
-μ-loop results values place rounds sum₀ j₀ sum j = rounds - j
+places-requires : tie.Need-places-requires
+places-requires c κs = search needs
 
-loop-holds : tie.Need-loop-holds Inv-loop μ-loop
-loop-holds c = (add-none, omega arith)
+sum-by-requires : tie.Need-sum-by-requires
+sum-by-requires c κs = search needs
 
-add-cell-of : tie.Need-add-cell-of Inv-loop μ-loop
-add-cell-of c = search needs
-
-cell-of-requires : tie.Need-cell-of-requires Inv-loop μ-loop
-cell-of-requires c κs = search needs
-
-shared-slice-read-worth : tie.Need-shared-slice-read-worth Inv-loop μ-loop
-shared-slice-read-worth c = search needs
-
-worth-requires : tie.Need-worth-requires Inv-loop μ-loop
-worth-requires c κs = search needs
-
-add-sum : tie.Need-add-sum Inv-loop μ-loop
-add-sum c =
-    let start : tie.Start Inv-loop μ-loop = c .before .before .before .before .before .before in
-    let one = worth-small (start .args .values) (getD (start .args .results .now) (c .before .before .cell-of .result) 0) (start .pre .3) in
-    omega (arith, c .worth .ensures, one, c .before .before .before .before .loop .inv .1, c .before .before .before .loop-test .taken)
-
-add-j : tie.Need-add-j Inv-loop μ-loop
-add-j c = search needs
-
-loop-less : tie.Need-loop-less Inv-loop μ-loop
-loop-less c = search needs
-
-loop-again : tie.Need-loop-again Inv-loop μ-loop
-loop-again c =
-    let start : tie.Start Inv-loop μ-loop = c .before .before .before .before .before .before in
-    let one = worth-small (start .args .values) (getD (start .args .results .now) (c .before .before .cell-of .result) 0) (start .pre .3) in
-    let s = c .before .before .before .before .loop .inv in (
-      add-more (s .0) (c .before .before .before .loop-test .taken) _ (c .worth .ensures ∙ rw (c .before .before .cell-of .ensures .0) refl),
-      omega (arith, c .worth .ensures, one, s .1),
-    )
-
-returns : tie.Need-returns Inv-loop μ-loop
-unfolding sumAt
-returns c = add-end (c .before .loop .inv .0) (c .loop-test .left)
+returns : tie.Need-returns
+returns c = c .sum-by .ensures _ (c .before .before .before .before .worths .ensures)
 
 pub sum-of-spec : {M : Type 1} → statement M
-sum-of-spec =
-    tie.close
-    (tie.spec
-    Inv-loop
-    μ-loop
-    loop-holds
-    add-cell-of
-    cell-of-requires
-    shared-slice-read-worth
-    worth-requires
-    add-sum
-    add-j
-    loop-less
-    loop-again
-    returns)
+sum-of-spec = tie.close (tie.spec worths-requires places-requires sum-by-requires returns)

@@ -13,10 +13,10 @@ use Rattle.glances.proofs.keeps_row.Statement.{statement}
 use Rattle.glances.proofs.keeps_row.Tie as tie
 
 abbrev Inv-loop : tie.InvT-loop
-Inv-loop place starts opponents colours results index answers rounds start j₀ j = (n : ℕ) → Indexed starts n index → KeepsRow n (four starts opponents colours results) (place .0) j
+Inv-loop place starts opponents colours results index grid places rounds start j₀ j = (n : ℕ) → Indexed starts n index → KeepsRow n (four starts opponents colours results) (place .0) j
 
 abbrev μ-loop : tie.MeasureT-loop
-μ-loop place starts opponents colours results index answers rounds start j₀ j = rounds - j
+μ-loop place starts opponents colours results index grid places rounds start j₀ j = rounds - j
 
 start-at-requires : tie.Need-start-at-requires Inv-loop μ-loop
 start-at-requires c κs = search needs
@@ -30,8 +30,8 @@ add-keeps-entry c = search needs
 keeps-entry-requires : tie.Need-keeps-entry-requires Inv-loop μ-loop
 keeps-entry-requires c κs =
     let start : tie.Start Inv-loop μ-loop = c .before .before .before .before .before .before .before in
-    let long = start .pre .1 .0 in
-    ((start .pre .0 .0, omega arith, omega (arith, c .loop-test .taken, start .pre .0 .1)), (long .opponents-long, long .colours-long, long .results-long, start .pre .1 .1, start .pre .1 .2))
+    let long = start .pre .1 .0 .0 in
+    ((start .pre .0 .0, omega arith, omega (arith, c .loop-test .taken, start .pre .0 .1)), ((long .opponents-long, long .colours-long, long .results-long, start .pre .1 .0 .1), start .pre .1 .1))
 
 returns : tie.Need-returns Inv-loop μ-loop
 returns c = λ e. clash e

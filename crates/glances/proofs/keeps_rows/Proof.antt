@@ -11,22 +11,22 @@ use Rattle.glances.proofs.keeps_rows.Statement.{statement}
 use Rattle.glances.proofs.keeps_rows.Tie as tie
 
 abbrev Inv-loop : tie.InvT-loop
-Inv-loop starts opponents colours results index answers n rounds p₀ p = KeepsRows n (four starts opponents colours results) p rounds
+Inv-loop starts opponents colours results index grid places n rounds p₀ p = KeepsRows n (four starts opponents colours results) p rounds
 
 abbrev μ-loop : tie.MeasureT-loop
-μ-loop starts opponents colours results index answers n rounds p₀ p = n - p
+μ-loop starts opponents colours results index grid places n rounds p₀ p = n - p
 
 loop-holds : tie.Need-loop-holds Inv-loop μ-loop
 loop-holds c = λ k l. absurd (omega arith)
 
-cast-t12 : tie.Need-cast-t12 Inv-loop μ-loop
-cast-t12 c = search needs
+cast-t13 : tie.Need-cast-t13 Inv-loop μ-loop
+cast-t13 c = search needs
 
 keeps-row-requires : tie.Need-keeps-row-requires Inv-loop μ-loop
 keeps-row-requires c κs =
     let start : tie.Start Inv-loop μ-loop = c .before .before .before .before .before .before in
-    let x = start .pre .1 .1 in
-    ((omega (arith, c .loop-test .taken, x .few), start .pre .0 .0), (start .pre .1 .0, record { starts = start .args .starts .now; players = start .args .n; indexed = x }, start .pre .0 .1))
+    let x = start .pre .1 .0 .1 in
+    ((omega (arith, c .loop-test .taken, x .few), start .pre .0), ((start .pre .1 .0 .0, record { starts = start .args .starts .now; players = start .args .n; indexed = x }), start .pre .1 .1))
 
 returns : tie.Need-returns Inv-loop μ-loop
 returns c = λ e. clash e
@@ -42,7 +42,7 @@ loop-again c =
     let start : tie.Start Inv-loop μ-loop = c .before .before .before .before .before .before .before .before in
     let a = start .args in
     below-more (λ q. KeepsRow (a .n) (four (a .starts .now) (a .opponents .now) (a .colours .now) (a .results .now)) q (a .rounds)) (c .before .before .before .loop .p) (c .before .before .before .loop .inv)
-    (c .before .keeps-row .ensures (not-false _ (c .if1 .left)) (a .n) (start .pre .1 .1))
+    (c .before .keeps-row .ensures (not-false _ (c .if1 .left)) (a .n) (start .pre .1 .0 .1))
 
 returns-2 : tie.Need-returns-2 Inv-loop μ-loop
 returns-2 c = λ _ q l. c .before .loop .inv q (omega (arith, l, c .loop-test .left))
@@ -54,7 +54,7 @@ keeps-rows-spec =
     Inv-loop
     μ-loop
     loop-holds
-    cast-t12
+    cast-t13
     keeps-row-requires
     returns
     add-p

@@ -1,5 +1,6 @@
 -- `glances::note_u` meets its contract. The loop's invariant: the flags of the first j rounds are noted. Assumes nothing.
 use borrow.Author.Needs.{needs}
+use mathlib.Core.Path.{_∙_}
 use Prim.Native.Nat.{_-_}
 use Rattle.law.specs.Sizes.{mostRounds}
 use Rattle.glances.proofs.Once.{Noting, note-none, note-more, note-end, u-is}
@@ -24,8 +25,11 @@ add-cell-of c = search needs
 cell-of-requires : tie.Need-cell-of-requires Inv-loop μ-loop
 cell-of-requires c κs = search needs
 
-shared-slice-read-here : tie.Need-shared-slice-read-here Inv-loop μ-loop
-shared-slice-read-here c = search needs
+shared-slice-read-is-allocated : tie.Need-shared-slice-read-is-allocated Inv-loop μ-loop
+shared-slice-read-is-allocated c = search needs
+
+is-allocated-requires : tie.Need-is-allocated-requires Inv-loop μ-loop
+is-allocated-requires c κs = search needs
 
 element-copy-out-earlier : tie.Need-element-copy-out-earlier Inv-loop μ-loop
 element-copy-out-earlier c = search needs
@@ -40,7 +44,9 @@ loop-less : tie.Need-loop-less Inv-loop μ-loop
 loop-less c = search needs
 
 loop-again : tie.Need-loop-again Inv-loop μ-loop
-loop-again c = note-more (c .before .before .before .before .loop .inv) (c .before .before .before .loop-test .taken) (u-is _ _ _ (c .before .before .cell-of .ensures .0))
+loop-again c =
+    note-more (c .before .before .before .before .before .loop .inv) (c .before .before .before .before .loop-test .taken)
+    (c .before .is-allocated .ensures ∙ u-is _ _ _ (c .before .before .before .cell-of .ensures .0))
 
 returns : tie.Need-returns Inv-loop μ-loop
 returns c = note-end (c .before .loop .inv) (c .loop-test .left)
@@ -55,7 +61,8 @@ note-u-spec =
     cast-cell-of
     add-cell-of
     cell-of-requires
-    shared-slice-read-here
+    shared-slice-read-is-allocated
+    is-allocated-requires
     element-copy-out-earlier
     element-write-seen
     add-j

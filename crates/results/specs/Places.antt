@@ -1,0 +1,39 @@
+-- The place of each result in their order, and what the tables hold that are lent. Means: no part of the statement.
+use mathlib.Core.Path.{_≡_}
+use mathlib.Core.Bool.{Bool, false}
+use mathlib.Core.List.{List, [], _++_}
+use Prim.Native.Nat.{ℕ, _<_}
+use Prim.Native.Char.{code}
+use lib.Dec.{eqb}
+use lib.ListN.{length, getD}
+use Rattle.kit.specs.Lists.{placeAmong}
+use Rattle.law.specs.Players.{gameResults, byeResults}
+use Rattle.law.specs.Entries.{fits}
+use Rattle.join.specs.Check.{worthBy}
+
+-- the results of games, then those of byes
+abbrev pub allResults : List ℕ
+allResults = gameResults ++ byeResults
+
+abbrev pub resultAt : ℕ → ℕ
+resultAt k = getD allResults k 0
+
+-- the place of a byte among them; past the last for one that is no result
+unfoldable pub resultPlace : ℕ → ℕ
+resultPlace c = placeAmong c allResults
+
+-- a cell for each two results of games, which says whether they fit
+pub record IsGrid (cells : List (List Bool)) : Type 0 where
+  pub each : (x y : ℕ) → x < length gameResults → y < length gameResults → getD (getD cells x []) y false ≡ fits (resultAt x) (resultAt y)
+
+-- a cell for each byte, which says its place
+pub record ArePlaces (cells : List ℕ) : Type 0 where
+  pub each : (c : ℕ) → c < 256 → getD cells c 0 ≡ resultPlace c
+
+-- a cell for each place and one for any other byte, which says what it earns
+pub record AreWorths (values cells : List ℕ) : Type 0 where
+  pub each : (c : ℕ) → c < 256 → getD cells (resultPlace c) 0 ≡ worthBy values c
+
+-- the bye of which a round has one
+abbrev pub isAllocated : ℕ → Bool
+isAllocated result = eqb result (code "U")
