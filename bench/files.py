@@ -31,6 +31,13 @@ def entries(players, rounds, starts, byes, games):
     return table
 
 
+def misfit(table, players):
+    """The two results of one game no longer fit: of all games the one whose first player stands last."""
+    one, r, other = max((min(pair), r, max(pair)) for r, pairs in enumerate(pairings(players, len(table[0]))) for pair in pairs)
+    for place in (one, other):
+        table[place][r] = (*table[place][r][:2], "1")
+
+
 def points(tenths, fill=" "):
     return f"{tenths // 10:{fill}>2d}.{tenths % 10}"
 
@@ -54,9 +61,11 @@ def text_of(size):
     return lines
 
 
-def report(players, rounds, accelerations=0, text="012 Cup\r", starts=None, byes=False, wrong_last=False, games=GAMES):
+def report(players, rounds, accelerations=0, text="012 Cup\r", starts=None, byes=False, wrong_last=False, misfits=False, games=GAMES):
     starts = starts or list(range(1, players + 1))
     table = entries(players, rounds, starts, byes, games)
+    if misfits:
+        misfit(table, players)
     lines = [text, f"142 {rounds}\r", "152 W\r", "162  W 1.0    D 0.5    L 0.0    A 0.0    P 1.0    X 0.5\r"]
     lines += [f"250      01.0 {i % 20 + 1:03d} {i % 20 + 1:03d} {1 + 100 * (i // 20):04d} {100 + 100 * (i // 20):04d}\r" for i in range(accelerations)]
     lines += [player_line(starts[p], p, table[p], 1 if wrong_last and p == players - 1 else 0) for p in range(players)]
@@ -87,6 +96,7 @@ def measured():
         ("65,535 bytes of long lines of blanks", filled(b" " * 512 + b"\r"), None),
         ("one line of 65,535 bytes", b"x" * MOST_FILE, None),
         ("largest, every game set by the arbiter (0 with 0, = with 0)", largest(games=SET_BY_ARBITER), None),
+        ("largest, refused by 14 at the last game that 14 can name", largest(misfits=True), None),
     ]
 
 

@@ -306,7 +306,7 @@ static void words(void)
             parts[at] = 10 * parts[at] + (uint32_t)(*c - '0');
     }
     same("the version's number", TRF_VERSION_NUMBER, 10000 * parts[0] + 100 * parts[1] + parts[2]);
-    same("the version", TRF_VERSION_NUMBER, 20100);
+    same("the version", TRF_VERSION_NUMBER, 20101);
     same("an acceptance in words", (uint64_t)strcmp(trf_words(TRF_ACCEPTED), "accepted"), 0);
     for (uint32_t number = 1; number <= TRF_NO_PLACE; number++)
         same("a refusal without words", strcmp(trf_words(number), trf_words(TRF_NO_PLACE + 1)) == 0, 0);

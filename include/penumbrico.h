@@ -12,8 +12,8 @@
    caller must change: a struct, a size, a call or what a part of an answer means. The second moves where the box carries more or gives a file another
    answer, the third where neither does. Since 2, trf_write takes how the lines end: what was compiled for 1, or declares the calls by itself, as a program
    in another language does, links with this archive all the same and must be made again. */
-#define TRF_VERSION "2.1.0"
-#define TRF_VERSION_NUMBER 20100
+#define TRF_VERSION "2.1.1"
+#define TRF_VERSION_NUMBER 20101
 
 #ifdef PENUMBRICO_NO_HEADERS /* for a compiler without the C library's headers: the names that gcc and clang have built in */
 typedef __UINT8_TYPE__ uint8_t;
