@@ -15,7 +15,7 @@ ghost use Rattle.join.specs.Grid.{firstFrom};
 ghost use Rattle.join.specs.Check.{placeAt, roundAt, isGameBy, hasUAt, keepsCell, brokenCell};
 ghost use Rattle.turns.specs.Found.{asFoundTurn};
 ghost use Rattle.index.specs.Index.{asPlaced, Indexed, IsIndex};
-ghost use Rattle.results.specs.Places.{IsGrid, ArePlaces};
+ghost use Rattle.results.specs.Order.{IsGrid, IsOrder};
 ghost use Rattle.checks.specs.Results.{entry};
 ghost use Rattle.checks.specs.Laws.{asLaw, four, Long};
 use index::Placed;
@@ -121,11 +121,11 @@ fn keeps_fitting(
     results: &[u8],
     index: &[u8; START_CELLS],
     grid: &[[bool; GAMES]; GAMES],
-    places: &[u8; BYTES],
+    order: &[u8; BYTES],
 ) -> bool
     requires { ⌜ (place .0 < mostPlayers) × (1 ≤ round) × (round ≤ mostRounds) ⌝ }
     requires { ⌜ (entryCells ≤ length (now opponents)) × (entryCells ≤ length (now results)) × IsIndex (now index) ⌝ }
-    requires { ⌜ IsGrid (now grid) × ArePlaces (now places) ⌝ }
+    requires { ⌜ IsGrid (now grid) × IsOrder (now order) ⌝ }
     ensures { λ r. ⌜ ((n : ℕ) (starts colours : List ℕ) → Indexed starts n (now (index .entry)) → r ≡ keepsCell fitting-results n (four starts (now (opponents .entry)) colours (now (results .entry))) (place .0) round) ⌝ }
 {
     let i = tables::cell_of(place, round);
@@ -135,7 +135,7 @@ fn keeps_fitting(
         return true;
     };
     let j = tables::cell_of(other, round);
-    results::fits(grid, places, results[i], results[j])
+    results::fits(grid, order, results[i], results[j])
 }
 
 // Whether an entry keeps a law, of those that are asked of the entry and its opponent's alone.
@@ -149,12 +149,12 @@ fn keeps_at(
     results: &[u8],
     index: &[u8; START_CELLS],
     grid: &[[bool; GAMES]; GAMES],
-    places: &[u8; BYTES],
+    order: &[u8; BYTES],
 ) -> bool
     requires { ⌜ (kind ≡ LawKind.OneU → ⊥) ⌝ }
     requires { ⌜ (place .0 < mostPlayers) × (1 ≤ round) × (round ≤ mostRounds) ⌝ }
     requires { ⌜ Long (now starts) (now opponents) (now colours) (now results) × IsIndex (now index) ⌝ }
-    requires { ⌜ IsGrid (now grid) × ArePlaces (now places) ⌝ }
+    requires { ⌜ IsGrid (now grid) × IsOrder (now order) ⌝ }
     ensures { λ r. ⌜ ((n : ℕ) → Indexed (now (starts .entry)) n (now (index .entry)) → r ≡ keepsCell (asLaw kind) n (four (now (starts .entry)) (now (opponents .entry)) (now (colours .entry)) (now (results .entry))) (place .0) round) ⌝ }
 {
     match kind {
@@ -162,7 +162,7 @@ fn keeps_at(
             keeps_bye_or_game(place, round, starts, opponents, colours, results, index)
         }
         LawKind::Mutual => keeps_mutual(place, round, starts, opponents, colours, index),
-        LawKind::Fitting => keeps_fitting(place, round, opponents, results, index, grid, places),
+        LawKind::Fitting => keeps_fitting(place, round, opponents, results, index, grid, order),
         LawKind::OneU => true,
     }
 }
@@ -178,12 +178,12 @@ fn is_broken(
     results: &[u8],
     index: &[u8; START_CELLS],
     grid: &[[bool; GAMES]; GAMES],
-    places: &[u8; BYTES],
+    order: &[u8; BYTES],
 ) -> bool
     requires { ⌜ (kind ≡ LawKind.OneU → ⊥) ⌝ }
     requires { ⌜ turn .0 < entryCells ⌝ }
     requires { ⌜ Long (now starts) (now opponents) (now colours) (now results) × IsIndex (now index) ⌝ }
-    requires { ⌜ IsGrid (now grid) × ArePlaces (now places) ⌝ }
+    requires { ⌜ IsGrid (now grid) × IsOrder (now order) ⌝ }
     ensures { λ r. ⌜ ((n : ℕ) → Indexed (now (starts .entry)) n (now (index .entry)) → r ≡ brokenCell (asLaw kind) n rounds (four (now (starts .entry)) (now (opponents .entry)) (now (colours .entry)) (now (results .entry))) (turn .0)) ⌝ }
 {
     let place = turns::place_at(turn);
@@ -201,7 +201,7 @@ fn is_broken(
         results,
         index,
         grid,
-        places,
+        order,
     )
 }
 
@@ -214,13 +214,13 @@ fn first_unkept(
     results: &[u8],
     index: &[u8; START_CELLS],
     grid: &[[bool; GAMES]; GAMES],
-    places: &[u8; BYTES],
+    order: &[u8; BYTES],
     n: usize,
     rounds: u32,
 ) -> FoundTurn
     requires { ⌜ (kind ≡ LawKind.OneU → ⊥) ⌝ }
     requires { ⌜ Long (now starts) (now opponents) (now colours) (now results) × Indexed (now starts) n (now index) ⌝ }
-    requires { ⌜ IsGrid (now grid) × ArePlaces (now places) ⌝ }
+    requires { ⌜ IsGrid (now grid) × IsOrder (now order) ⌝ }
     ensures { λ r. ⌜ r ≡ asFoundTurn (firstFrom (brokenCell (asLaw kind) n rounds (four (now (starts .entry)) (now (opponents .entry)) (now (colours .entry)) (now (results .entry)))) 0 (n * mostRounds)) ⌝ }
 {
     let end = n * MOST_ROUNDS;
@@ -237,7 +237,7 @@ fn first_unkept(
             results,
             index,
             grid,
-            places,
+            order,
         ) {
             return FoundTurn::At(turn);
         }
@@ -297,7 +297,7 @@ pub fn first_broken(
         return first_second_u(results, n, rounds);
     }
     let grid = results::grid();
-    let places = results::places();
+    let order = results::order();
     first_unkept(
         kind,
         starts,
@@ -306,7 +306,7 @@ pub fn first_broken(
         results,
         index,
         &grid,
-        &places,
+        &order,
         n,
         rounds,
     )

@@ -6,7 +6,7 @@ use Prim.Native.Nat.{ℕ}
 use lib.Dec.{leb}
 use Rattle.kit.specs.Lists.{all}
 use Rattle.law.specs.Sizes.{mostPoints}
-use Rattle.results.specs.Places.{AreWorths}
+use Rattle.results.specs.Order.{AreWorths}
 
 abbrev pub areSmall : List ℕ → Bool
 areSmall values = all (λ v. leb v mostPoints) values

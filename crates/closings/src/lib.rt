@@ -15,7 +15,7 @@ ghost use Rattle.join.specs.Grid.{firstFrom};
 ghost use Rattle.join.specs.Check.{isSeen, roundSeen, roundsSeen, pastCell, sharedRecord, closing, sumAt, wrongSum};
 ghost use Rattle.index.specs.Index.{asPlaced};
 ghost use Rattle.turns.specs.Found.{asFoundTurn, asFoundRecord};
-ghost use Rattle.results.specs.Places.{ArePlaces, AreWorths};
+ghost use Rattle.results.specs.Order.{IsOrder, AreWorths};
 ghost use Rattle.closings.specs.Values.{areSmall, SmallWorths};
 ghost use Rattle.closings.specs.Closing.{ClosesRow};
 use index::Placed;
@@ -194,19 +194,19 @@ pub fn close(t: &mut [u8], n: usize, rounds: u32, letter: u8)
 fn sum_by(
     results: &[u8],
     worths: &[u32; WORTHS],
-    places: &[u8; BYTES],
+    order: &[u8; BYTES],
     place: Place,
     rounds: u32,
 ) -> u32
     requires { ⌜ (place .0 < mostPlayers) × (rounds ≤ mostRounds) × (entryCells ≤ length (now results)) ⌝ }
-    requires { ⌜ SmallWorths (now worths) × ArePlaces (now places) ⌝ }
+    requires { ⌜ SmallWorths (now worths) × IsOrder (now order) ⌝ }
     ensures { λ r. ⌜ ((values : List ℕ) → AreWorths values (now (worths .entry)) → r ≡ sumAt values (now (results .entry)) (place .0) rounds) ⌝ }
 {
     let mut sum = 0;
     let mut j = 0;
     while j < rounds {
         let i = tables::cell_of(place, j + 1);
-        sum += results::worth(worths, places, results[i]);
+        sum += results::worth(worths, order, results[i]);
         j += 1;
     }
     sum
@@ -218,8 +218,8 @@ pub fn sum_of(results: &[u8], values: [u32; VALUES], place: Place, rounds: u32) 
     ensures { λ r. ⌜ r ≡ sumAt values (now (results .entry)) (place .0) rounds ⌝ }
 {
     let worths = results::worths(values);
-    let places = results::places();
-    sum_by(results, &worths, &places, place, rounds)
+    let order = results::order();
+    sum_by(results, &worths, &order, place, rounds)
 }
 
 // Whether a player's stated points are not the sum.
@@ -227,15 +227,15 @@ fn is_wrong_sum(
     points: &[u32],
     results: &[u8],
     worths: &[u32; WORTHS],
-    places: &[u8; BYTES],
+    order: &[u8; BYTES],
     place: Place,
     rounds: u32,
 ) -> bool
     requires { ⌜ (place .0 < mostPlayers) × (rounds ≤ mostRounds) × (mostPlayers ≤ length (now points)) × (entryCells ≤ length (now results)) ⌝ }
-    requires { ⌜ SmallWorths (now worths) × ArePlaces (now places) ⌝ }
+    requires { ⌜ SmallWorths (now worths) × IsOrder (now order) ⌝ }
     ensures { λ r. ⌜ ((values : List ℕ) → AreWorths values (now (worths .entry)) → r ≡ wrongSum values (now (points .entry)) (now (results .entry)) rounds (place .0)) ⌝ }
 {
-    let sum = sum_by(results, worths, places, place, rounds);
+    let sum = sum_by(results, worths, order, place, rounds);
     let i = tables::own_cell(place);
     points[i] != sum
 }
@@ -252,11 +252,11 @@ pub fn first_wrong_sum(
     ensures { λ r. ⌜ r ≡ asPlaced (firstFrom (wrongSum values (now (points .entry)) (now (results .entry)) rounds) 0 n) ⌝ }
 {
     let worths = results::worths(values);
-    let places = results::places();
+    let order = results::order();
     let mut p = 0;
     while p < n {
         let place = Place(p as u32);
-        if is_wrong_sum(points, results, &worths, &places, place, rounds) {
+        if is_wrong_sum(points, results, &worths, &order, place, rounds) {
             return Placed::At(place);
         }
         p += 1;

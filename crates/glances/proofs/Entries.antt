@@ -14,7 +14,7 @@ use Rattle.join.specs.Check.{entryCell, isGameBy, keepsCell}
 use Rattle.index.specs.declared.Placed.{Placed}
 use Rattle.index.specs.declared.Placed.the-variants.{At, Nobody}
 use Rattle.index.specs.Index.{asPlaced}
-use Rattle.results.proofs.Order.{fits-own}
+use Rattle.results.proofs.Ordered.{fits-own}
 use Rattle.checks.specs.Results.{entry}
 use Rattle.checks.specs.Laws.{four}
 use Rattle.checks.proofs.Kept.{game-somebody, bye-kept, mutual-alone, fitting-alone, mutual-kept, fitting-kept}

@@ -12,7 +12,7 @@ ghost use Rattle.law.specs.Tables.{entryCells};
 ghost use Rattle.join.specs.Grid.{firstFrom};
 ghost use Rattle.join.specs.Check.{pastCell, brokenCell};
 ghost use Rattle.index.specs.Index.{Indexed, IsIndex};
-ghost use Rattle.results.specs.Places.{IsGrid, ArePlaces};
+ghost use Rattle.results.specs.Order.{IsGrid, IsOrder};
 ghost use Rattle.checks.specs.Laws.{four, Long};
 ghost use Rattle.glances.specs.Glance.{Opposite, KeepsEntry, KeepsRow, KeepsRows, Noted, OnceU, BlankRow};
 use index::Placed;
@@ -44,11 +44,11 @@ fn keeps_entry(
     results: &[u8],
     index: &[u8; START_CELLS],
     grid: &[[bool; GAMES]; GAMES],
-    places: &[u8; BYTES],
+    order: &[u8; BYTES],
 ) -> bool
     requires { ⌜ (place .0 < mostPlayers) × (1 ≤ round) × (round ≤ mostRounds) ⌝ }
     requires { ⌜ (entryCells ≤ length (now opponents)) × (entryCells ≤ length (now colours)) × (entryCells ≤ length (now results)) × IsIndex (now index) ⌝ }
-    requires { ⌜ IsGrid (now grid) × ArePlaces (now places) ⌝ }
+    requires { ⌜ IsGrid (now grid) × IsOrder (now order) ⌝ }
     ensures { λ r. ⌜ (r ≡ true → (starts : List ℕ) (n : ℕ) → getD starts (place .0) 0 ≡ start .0 → Indexed starts n (now (index .entry)) → KeepsEntry n (four starts (now (opponents .entry)) (now (colours .entry)) (now (results .entry))) (place .0) round) ⌝ }
 {
     let i = tables::cell_of(place, round);
@@ -70,7 +70,7 @@ fn keeps_entry(
     if !are_opposite(colour, colours[j]) {
         return false;
     }
-    results::fits(grid, places, result, results[j])
+    results::fits(grid, order, result, results[j])
 }
 
 // Whether a player's entries do, up to a round.
@@ -82,12 +82,12 @@ fn keeps_row(
     results: &[u8],
     index: &[u8; START_CELLS],
     grid: &[[bool; GAMES]; GAMES],
-    places: &[u8; BYTES],
+    order: &[u8; BYTES],
     rounds: u32,
 ) -> bool
     requires { ⌜ (place .0 < mostPlayers) × (rounds ≤ mostRounds) ⌝ }
     requires { ⌜ Long (now starts) (now opponents) (now colours) (now results) × IsIndex (now index) ⌝ }
-    requires { ⌜ IsGrid (now grid) × ArePlaces (now places) ⌝ }
+    requires { ⌜ IsGrid (now grid) × IsOrder (now order) ⌝ }
     ensures { λ r. ⌜ (r ≡ true → (n : ℕ) → Indexed (now (starts .entry)) n (now (index .entry)) → KeepsRow n (four (now (starts .entry)) (now (opponents .entry)) (now (colours .entry)) (now (results .entry))) (place .0) rounds) ⌝ }
 {
     let start = tables::start_at(starts, place);
@@ -102,7 +102,7 @@ fn keeps_row(
             results,
             index,
             grid,
-            places,
+            order,
         ) {
             return false;
         }
@@ -119,13 +119,13 @@ fn keeps_rows(
     results: &[u8],
     index: &[u8; START_CELLS],
     grid: &[[bool; GAMES]; GAMES],
-    places: &[u8; BYTES],
+    order: &[u8; BYTES],
     n: usize,
     rounds: u32,
 ) -> bool
     requires { ⌜ rounds ≤ mostRounds ⌝ }
     requires { ⌜ Long (now starts) (now opponents) (now colours) (now results) × Indexed (now starts) n (now index) ⌝ }
-    requires { ⌜ IsGrid (now grid) × ArePlaces (now places) ⌝ }
+    requires { ⌜ IsGrid (now grid) × IsOrder (now order) ⌝ }
     ensures { λ r. ⌜ (r ≡ true → KeepsRows n (four (now (starts .entry)) (now (opponents .entry)) (now (colours .entry)) (now (results .entry))) n rounds) ⌝ }
 {
     let mut p = 0;
@@ -139,7 +139,7 @@ fn keeps_rows(
             results,
             index,
             grid,
-            places,
+            order,
             rounds,
         ) {
             return false;
@@ -230,7 +230,7 @@ pub fn all_lawful(
         return false;
     }
     let grid = results::grid();
-    let places = results::places();
+    let order = results::order();
     if !keeps_rows(
         starts,
         opponents,
@@ -238,7 +238,7 @@ pub fn all_lawful(
         results,
         index,
         &grid,
-        &places,
+        &order,
         n,
         rounds,
     ) {

@@ -7,7 +7,7 @@ ghost use Rattle.kit.specs.Lists.{among};
 ghost use Rattle.law.specs.Players.{byeResults, gameResults, slotResults};
 ghost use Rattle.law.specs.Entries as entries;
 ghost use Rattle.join.specs.Check.{worthBy};
-ghost use Rattle.results.specs.Places.{IsGrid, ArePlaces, AreWorths, isAllocated};
+ghost use Rattle.results.specs.Order.{IsGrid, IsOrder, AreWorths, isAllocated};
 use types::ABSENT;
 use types::DRAW;
 use types::LOSS;
@@ -57,9 +57,9 @@ pub fn grid() -> [[bool; GAMES]; GAMES]
     FITS
 }
 
-// The place of each byte among the results, in their order.
-pub fn places() -> [u8; BYTES]
-    ensures { λ r. ⌜ ArePlaces r ⌝ }
+// The place of each byte in the order of results.
+pub fn order() -> [u8; BYTES]
+    ensures { λ r. ⌜ IsOrder r ⌝ }
 {
     let mut cells = [NOWHERE; BYTES];
     cells[b'1' as usize] = 0;
@@ -85,15 +85,15 @@ fn wide(x: u8) -> usize
 }
 
 // Whether two results are those of one game.
-pub fn fits(grid: &[[bool; GAMES]; GAMES], places: &[u8; BYTES], a: u8, b: u8) -> bool
-    requires { ⌜ IsGrid (now grid) × ArePlaces (now places) ⌝ }
+pub fn fits(grid: &[[bool; GAMES]; GAMES], order: &[u8; BYTES], a: u8, b: u8) -> bool
+    requires { ⌜ IsGrid (now grid) × IsOrder (now order) ⌝ }
     ensures { λ r. ⌜ r ≡ entries.fits a b ⌝ }
 {
-    let own = wide(places[a as usize]);
+    let own = wide(order[a as usize]);
     if GAMES <= own {
         return false;
     }
-    let theirs = wide(places[b as usize]);
+    let theirs = wide(order[b as usize]);
     if GAMES <= theirs {
         return false;
     }
@@ -127,11 +127,11 @@ pub fn worths(values: [u32; VALUES]) -> [u32; WORTHS]
 }
 
 // What a result earns.
-pub fn worth(worths: &[u32; WORTHS], places: &[u8; BYTES], result: u8) -> u32
-    requires { ⌜ ArePlaces (now places) ⌝ }
+pub fn worth(worths: &[u32; WORTHS], order: &[u8; BYTES], result: u8) -> u32
+    requires { ⌜ IsOrder (now order) ⌝ }
     ensures { λ r. ⌜ ((values : List ℕ) → AreWorths values (now (worths .entry)) → r ≡ worthBy values result) ⌝ }
 {
-    let place = wide(places[result as usize]);
+    let place = wide(order[result as usize]);
     worths[place]
 }
 

@@ -11,10 +11,10 @@ use Rattle.checks.proofs.first_unkept.Statement.{statement}
 use Rattle.checks.proofs.first_unkept.Tie as tie
 
 abbrev Inv-loop : tie.InvT-loop
-Inv-loop kind starts opponents colours results index grid places n rounds end k₀ k = Seeking (brokenCell (asLaw kind) n rounds (four starts opponents colours results)) end k
+Inv-loop kind starts opponents colours results index grid order n rounds end k₀ k = Seeking (brokenCell (asLaw kind) n rounds (four starts opponents colours results)) end k
 
 abbrev μ-loop : tie.MeasureT-loop
-μ-loop kind starts opponents colours results index grid places n rounds end k₀ k = end - k
+μ-loop kind starts opponents colours results index grid order n rounds end k₀ k = end - k
 
 mul-end : tie.Need-mul-end Inv-loop μ-loop
 mul-end c = search needs

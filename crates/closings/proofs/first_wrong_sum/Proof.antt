@@ -5,22 +5,22 @@ use mathlib.Core.List.{List}
 use Prim.Native.Nat.{ℕ, _-_}
 use Rattle.join.specs.Check.{wrongSum}
 use Rattle.index.specs.Index.{asPlaced}
-use Rattle.results.specs.Places.{AreWorths}
+use Rattle.results.specs.Order.{AreWorths}
 use Rattle.turns.proofs.Seeks.{Seeking, seek-none, seek-hit, seek-more, seek-end}
 use Rattle.closings.proofs.first_wrong_sum.Statement.{statement}
 use Rattle.closings.proofs.first_wrong_sum.Tie as tie
 
 abbrev Inv-loop : tie.InvT-loop
-Inv-loop points results n rounds worths places p₀ p = (values : List ℕ) → AreWorths values worths → Seeking (wrongSum values points results rounds) n p
+Inv-loop points results n rounds worths order p₀ p = (values : List ℕ) → AreWorths values worths → Seeking (wrongSum values points results rounds) n p
 
 abbrev μ-loop : tie.MeasureT-loop
-μ-loop points results n rounds worths places p₀ p = n - p
+μ-loop points results n rounds worths order p₀ p = n - p
 
 worths-requires : tie.Need-worths-requires Inv-loop μ-loop
 worths-requires c κs = search needs
 
-places-requires : tie.Need-places-requires Inv-loop μ-loop
-places-requires c κs = search needs
+order-requires : tie.Need-order-requires Inv-loop μ-loop
+order-requires c κs = search needs
 
 loop-holds : tie.Need-loop-holds Inv-loop μ-loop
 loop-holds c = λ values w. seek-none _ _
@@ -57,7 +57,7 @@ first-wrong-sum-spec =
     Inv-loop
     μ-loop
     worths-requires
-    places-requires
+    order-requires
     loop-holds
     cast-t13
     is-wrong-sum-requires

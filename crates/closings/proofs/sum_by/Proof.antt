@@ -8,18 +8,18 @@ use lib.ListN.{getD}
 use Rattle.law.specs.Sizes.{mostPoints}
 use Rattle.law.specs.Tables.{cellOf}
 use Rattle.join.specs.Check.{worthBy, sumAt}
-use Rattle.results.specs.Places.{AreWorths}
+use Rattle.results.specs.Order.{AreWorths}
 use Rattle.turns.proofs.Seeks.{Adding, add-none, add-more, add-end}
 use Rattle.closings.proofs.Worths.{worth-small}
 use Rattle.closings.proofs.sum_by.Statement.{statement}
 use Rattle.closings.proofs.sum_by.Tie as tie
 
 abbrev Inv-loop : tie.InvT-loop
-Inv-loop results worths places place rounds sum₀ j₀ sum j =
+Inv-loop results worths order place rounds sum₀ j₀ sum j =
     ((values : List ℕ) → AreWorths values worths → Adding (λ k. worthBy values (getD results (cellOf (place .0) (k + 1)) 0)) rounds j sum) × (sum ≤ mostPoints * j)
 
 abbrev μ-loop : tie.MeasureT-loop
-μ-loop results worths places place rounds sum₀ j₀ sum j = rounds - j
+μ-loop results worths order place rounds sum₀ j₀ sum j = rounds - j
 
 loop-holds : tie.Need-loop-holds Inv-loop μ-loop
 loop-holds c = (λ values w. add-none, omega arith)

@@ -6,8 +6,8 @@ use Rattle.closings.proofs.sum_of.Tie as tie
 worths-requires : tie.Need-worths-requires
 worths-requires c κs = search needs
 
-places-requires : tie.Need-places-requires
-places-requires c κs = search needs
+order-requires : tie.Need-order-requires
+order-requires c κs = search needs
 
 sum-by-requires : tie.Need-sum-by-requires
 sum-by-requires c κs = search needs
@@ -16,4 +16,4 @@ returns : tie.Need-returns
 returns c = c .sum-by .ensures _ (c .before .before .before .before .worths .ensures)
 
 pub sum-of-spec : {M : Type 1} → statement M
-sum-of-spec = tie.close (tie.spec worths-requires places-requires sum-by-requires returns)
+sum-of-spec = tie.close (tie.spec worths-requires order-requires sum-by-requires returns)

@@ -12,13 +12,13 @@ returns c = λ e. clash e
 grid-requires : tie.Need-grid-requires
 grid-requires c κs = tt
 
-places-requires : tie.Need-places-requires
-places-requires c κs = tt
+order-requires : tie.Need-order-requires
+order-requires c κs = tt
 
 keeps-rows-requires : tie.Need-keeps-rows-requires
 keeps-rows-requires c κs =
     let start : tie.Start = c .before .before .before .before .before .before .before .before .before in
-    (c .before .before .before .before .if1 .left, (start .pre, (c .before .before .before .grid .ensures, c .before .before .places .ensures)))
+    (c .before .before .before .before .if1 .left, (start .pre, (c .before .before .before .grid .ensures, c .before .before .order .ensures)))
 
 returns-2 : tie.Need-returns-2
 returns-2 c = λ e. clash e
@@ -36,4 +36,4 @@ returns-3 c =
 
 pub all-lawful-spec : {M : Type 1} → statement M
 all-lawful-spec =
-    tie.close (tie.spec returns grid-requires places-requires keeps-rows-requires returns-2 keeps-one-u-requires returns-3)
+    tie.close (tie.spec returns grid-requires order-requires keeps-rows-requires returns-2 keeps-one-u-requires returns-3)

@@ -13,10 +13,10 @@ use Rattle.glances.proofs.keeps_row.Statement.{statement}
 use Rattle.glances.proofs.keeps_row.Tie as tie
 
 abbrev Inv-loop : tie.InvT-loop
-Inv-loop place starts opponents colours results index grid places rounds start j₀ j = (n : ℕ) → Indexed starts n index → KeepsRow n (four starts opponents colours results) (place .0) j
+Inv-loop place starts opponents colours results index grid order rounds start j₀ j = (n : ℕ) → Indexed starts n index → KeepsRow n (four starts opponents colours results) (place .0) j
 
 abbrev μ-loop : tie.MeasureT-loop
-μ-loop place starts opponents colours results index grid places rounds start j₀ j = rounds - j
+μ-loop place starts opponents colours results index grid order rounds start j₀ j = rounds - j
 
 start-at-requires : tie.Need-start-at-requires Inv-loop μ-loop
 start-at-requires c κs = search needs

@@ -11,10 +11,10 @@ use Rattle.glances.proofs.keeps_rows.Statement.{statement}
 use Rattle.glances.proofs.keeps_rows.Tie as tie
 
 abbrev Inv-loop : tie.InvT-loop
-Inv-loop starts opponents colours results index grid places n rounds p₀ p = KeepsRows n (four starts opponents colours results) p rounds
+Inv-loop starts opponents colours results index grid order n rounds p₀ p = KeepsRows n (four starts opponents colours results) p rounds
 
 abbrev μ-loop : tie.MeasureT-loop
-μ-loop starts opponents colours results index grid places n rounds p₀ p = n - p
+μ-loop starts opponents colours results index grid order n rounds p₀ p = n - p
 
 loop-holds : tie.Need-loop-holds Inv-loop μ-loop
 loop-holds c = λ k l. absurd (omega arith)

@@ -1,7 +1,7 @@
 -- `results::fits` meets its contract. Assumes nothing.
 use mathlib.Core.Path.{_∙_}
 use native.Mathlib.Omega.{arith}
-use Rattle.results.proofs.Order.{own-unlisted, theirs-unlisted, both-listed}
+use Rattle.results.proofs.Ordered.{own-unlisted, theirs-unlisted, both-listed}
 use borrow.Author.Needs.{needs}
 use Rattle.results.proofs.fits.Statement.{statement}
 use Rattle.results.proofs.fits.Tie as tie

@@ -1,6 +1,6 @@
 -- `results::grid` meets its contract: the grid is the one that the rule gives. Assumes nothing.
 use Rattle.law.specs.Entries.{fits}
-use Rattle.results.proofs.Order.{is-grid}
+use Rattle.results.proofs.Ordered.{is-grid}
 use Rattle.results.proofs.grid.Statement.{statement}
 use Rattle.results.proofs.grid.Tie as tie
 

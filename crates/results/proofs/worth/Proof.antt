@@ -1,8 +1,8 @@
--- `results::worth` meets its contract: every byte has a place on the places. Assumes nothing.
+-- `results::worth` meets its contract: every byte has a place in the order. Assumes nothing.
 use mathlib.Core.Path.{ap, _∙_}
 use borrow.Author.Needs.{needs}
 use lib.ListN.{getD}
-use Rattle.results.proofs.Order.{place-low}
+use Rattle.results.proofs.Ordered.{place-low}
 use Rattle.results.proofs.worth.Statement.{statement}
 use Rattle.results.proofs.worth.Tie as tie
 

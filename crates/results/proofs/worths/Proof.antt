@@ -1,8 +1,8 @@
 -- `results::worths` meets its contract: what each byte earns is computed from the rule and compared. Assumes nothing.
 use mathlib.Core.Path.{refl}
 use Rattle.join.specs.Check.{worthBy}
-use Rattle.results.specs.Places.{resultPlace}
-use Rattle.results.proofs.Order.{are-worths}
+use Rattle.results.specs.Order.{resultPlace}
+use Rattle.results.proofs.Ordered.{are-worths}
 use borrow.Author.Needs.{needs}
 use Rattle.results.proofs.worths.Statement.{statement}
 use Rattle.results.proofs.worths.Tie as tie

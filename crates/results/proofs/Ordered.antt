@@ -14,9 +14,9 @@ use Rattle.kit.proofs.Places.{place-most, place-at, place-first}
 use Rattle.law.specs.Players.{gameResults, byeResults}
 use Rattle.law.specs.Entries.{fittingPairs, fits}
 use Rattle.join.specs.Check.{worthBy}
-use Rattle.results.specs.Places.{allResults, resultAt, resultPlace, IsGrid, ArePlaces, AreWorths}
+use Rattle.results.specs.Order.{allResults, resultAt, resultPlace, IsGrid, IsOrder, AreWorths}
 
--- ---- places
+-- ---- places in the order
 pub place-low : (c : ℕ) → resultPlace c ≤ length allResults
 unfolding resultPlace
 place-low c = place-most c allResults
@@ -69,8 +69,8 @@ is-grid =
           ap (λ (r : List Bool). getD r y false) (made-at row [] (length gameResults) x l) ∙ made-at (λ y. fits (resultAt x) (resultAt y)) false (length gameResults) y m;
     }
 
-pub are-places : ArePlaces (ofRule 256 resultPlace)
-are-places = record { each = λ c l. made-at resultPlace 0 256 c l }
+pub is-order : IsOrder (ofRule 256 resultPlace)
+is-order = record { each = λ c l. made-at resultPlace 0 256 c l }
 
 -- what stands at each byte's place is what it earns
 pub are-worths : (values cells : List ℕ) → ofRule 256 (λ c. getD cells (resultPlace c) 0) ≡ ofRule 256 (worthBy values) → AreWorths values cells

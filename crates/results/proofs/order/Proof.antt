@@ -1,9 +1,9 @@
--- `results::places` meets its contract: the table is the one that the rule gives. Assumes nothing.
-use Rattle.results.specs.Places.{resultPlace}
-use Rattle.results.proofs.Order.{are-places}
+-- `results::order` meets its contract: the table is the one that the rule gives. Assumes nothing.
+use Rattle.results.specs.Order.{resultPlace}
+use Rattle.results.proofs.Ordered.{is-order}
 use borrow.Author.Needs.{needs}
-use Rattle.results.proofs.places.Statement.{statement}
-use Rattle.results.proofs.places.Tie as tie
+use Rattle.results.proofs.order.Statement.{statement}
+use Rattle.results.proofs.order.Tie as tie
 
 cast-cells : tie.Need-cast-cells
 cast-cells c = search needs
@@ -79,10 +79,10 @@ array-write-cells-12 c = search needs
 
 returns : tie.Need-returns
 unfolding resultPlace
-returns c = are-places
+returns c = is-order
 
-pub places-spec : {M : Type 1} → statement M
-places-spec =
+pub order-spec : {M : Type 1} → statement M
+order-spec =
     tie.close
     (tie.spec
     cast-cells

@@ -27,7 +27,7 @@ pub record IsGrid (cells : List (List Bool)) : Type 0 where
   pub each : (x y : ℕ) → x < length gameResults → y < length gameResults → getD (getD cells x []) y false ≡ fits (resultAt x) (resultAt y)
 
 -- a cell for each byte, which says its place
-pub record ArePlaces (cells : List ℕ) : Type 0 where
+pub record IsOrder (cells : List ℕ) : Type 0 where
   pub each : (c : ℕ) → c < 256 → getD cells c 0 ≡ resultPlace c
 
 -- a cell for each place and one for any other byte, which says what it earns
