@@ -554,6 +554,7 @@ def equal(text):
         (r"≡ true", lambda m: "≡ mathlib.Core.Bool.not mathlib.Core.Bool.false"),
         (r"≡ false", lambda m: "≡ mathlib.Core.Bool.not mathlib.Core.Bool.true"),
         (r'\(?code "(.)"\)?', lambda m: str(ord(m.group(1)))),
+        (r'ascii "(.)(.)"', lambda m: "(mathlib.Core.List._∷_ %d (mathlib.Core.List._∷_ %d mathlib.Core.List.[]))" % (ord(m.group(1)), ord(m.group(2)))),
         (r"(?<![\w.-])blank(?![\w-])", lambda m: "32"),
         (r"(?<![\w.«{-])([1-9]\d*)(?![\w»-])", lambda m: "(Prim.Native.Nat.suc %d)" % (int(m.group(1)) - 1)),
         (r"\b(\w+ \.\w+)", lambda m: "(%s)" % m.group(1)),
