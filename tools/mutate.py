@@ -12,6 +12,10 @@ from queue import Queue
 ROOT = os.path.dirname(os.path.dirname(os.path.abspath(__file__)))
 KEEP = ("types", "kit", "law", "written")
 
+# What the results of each list earn, and all that one could.
+EARNS = (("1W+F", "win"), ("=DH", "draw"), ("0L", "loss"), ("-Z", "absent"), ("U", "pairing"))
+VALUES = ("win", "draw", "loss", "absent", "pairing", "unknown")
+
 CHANGES = [
     # sizes
     ("Sizes", "mostFile = 65535", "mostFile = 65534"),
@@ -253,8 +257,8 @@ CHANGES = [
     *[("Entries", 'ascii "%s" ∷' % p, 'ascii "%s" ∷' % q) for p, q in (("00", "LL"), ("00", "0L"), ("00", "0-"), ("00", "0="), ("00", "--"), ("=0", "=L"), ("=0", "=-"), ("=0", "=1"), ("=0", "DL"), ("=0", "D0"), ("=0", "+0"), ("=0", "=W"))],
     *[("Entries", "isOneOf (b ∷ a ∷ []) fittingPairs", "isOneOf (b ∷ a ∷ []) (take %d fittingPairs)" % n) for n in (7, 6, 4, 2)],
     # what a result earns
-    *[("Entries", 'ascii "%s"' % s, 'ascii "%s"' % s.replace(c, "")) for s in ("1W+F", "=DH", "0L", "-Z", "U") for c in s],
-    ("Entries", "(s .pairing) 0", "(s .unknown) 0"),
+    *[("Entries", 'ascii "%s"' % s, 'ascii "%s"' % s.replace(c, "")) for s, _ in EARNS for c in s],
+    *[("Entries", '(ascii "%s")) (s .%s)' % (s, v), '(ascii "%s")) (cond (eqb result (code "%s")) (s .%s) (s .%s))' % (s, c, w, v)) for s, v in EARNS for c in s for w in VALUES if w != v],
     ("Entries", "sumOf (λ e. worth s (e .result)) entries", "sumOf (λ e. worth s (e .result)) (take 1 entries)"),
     ("Entries", "isBye e = eqb (e .id) 0 &&", "isBye e = eqb (e .result) (e .result) &&"),
     ("Entries", "among (e .colour) gameColours && among (e .result) gameResults", "among (e .result) gameResults"),
