@@ -23,7 +23,7 @@ map-from-at f d i zero k l = absurd (omega arith)
 map-from-at f d i (suc n) zero l = ap f (sym (add-zero i))
 map-from-at f d i (suc n) (suc k) l = map-from-at f d (i + 1) n k (omega arith) ∙ ap f (omega arith)
 
--- a list that is made of the first n numbers
+-- a list that is made of n numbers in a row, and the cells of one that is made of the first
 module _ {A : Type 0} (f : ℕ → A) where
   pub made-length : (n i : ℕ) → length (map f (from i n)) ≡ n
   made-length n i = length-map (from i n) f ∙ length-from i n

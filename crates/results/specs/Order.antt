@@ -34,6 +34,6 @@ pub record IsOrder (cells : List ℕ) : Type 0 where
 pub record AreWorths (values cells : List ℕ) : Type 0 where
   pub each : (c : ℕ) → c < 256 → getD cells (resultPlace c) 0 ≡ worthBy values c
 
--- the bye of which a round has one
+-- the bye of which a round has at most one
 abbrev pub isAllocated : ℕ → Bool
 isAllocated result = eqb result (code "U")

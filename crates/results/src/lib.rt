@@ -155,7 +155,7 @@ pub fn is_bye_result(result: u8) -> bool
     (result == b'H') | (result == b'F') | (result == b'U') | (result == b'Z')
 }
 
-// Whether a bye is the one that the pairing allocates, of which a round has one.
+// Whether a bye is the one that the pairing allocates, of which a round has at most one.
 pub fn is_allocated(result: u8) -> bool
     ensures { λ r. ⌜ r ≡ isAllocated result ⌝ }
 {
