@@ -261,8 +261,28 @@ CHANGES = [
     *[("Entries", '(ascii "%s")) (s .%s)' % (s, v), '(ascii "%s")) (cond (eqb result (code "%s")) (s .%s) (s .%s))' % (s, c, w, v)) for s, v in EARNS for c in s for w in VALUES if w != v],
     ("Entries", "sumOf (λ e. worth s (e .result)) entries", "sumOf (λ e. worth s (e .result)) (take 1 entries)"),
     ("Entries", "isBye e = eqb (e .id) 0 &&", "isBye e = eqb (e .result) (e .result) &&"),
-    ("Entries", "among (e .colour) gameColours && among (e .result) gameResults", "among (e .result) gameResults"),
-    ("Entries", "among (e .colour) gameColours && among (e .result) gameResults", "among (e .colour) gameColours"),
+    ("Entries", "among (e .colour) gameColours && among (e .result) heldGameResults", "among (e .result) heldGameResults"),
+    ("Entries", "among (e .colour) gameColours && among (e .result) heldGameResults", "among (e .colour) gameColours"),
+    # unknown results: held as something else, or a blank or no `?` held; a colour made up, one colour only, any colour, an entry without opponent; one more pair that fits, none, or another;
+    # what it earns; what is written for it and for others; `?` on a line
+    *[("Players", 'unknownResult = code "?"', 'unknownResult = code "%s"' % c) for c in " Z=0-!"],
+    ("Players", "heldGameResults = unknownResult ∷ gameResults", "heldGameResults = gameResults"),
+    ("Players", "heldGameResults = unknownResult ∷ gameResults", 'heldGameResults = code " " ∷ unknownResult ∷ gameResults'),
+    ("Players", "slotResults = gameResults ++", "slotResults = heldGameResults ++"),
+    *[("Tournament", "blankAs unknownResult (s .result)", other) for other in ('blankAs (code "Z") (s .result)', 'blankAs (code "=") (s .result)', 'blankAs (code "-") (s .result)', "s .result", 'blankAs unknownResult (cond (eqb (s .result) (code "=")) blank (s .result))')],
+    *[("Tournament", "colour = s .colour; result = blankAs unknownResult", 'colour = blankAs (code "%s") (s .colour); result = blankAs unknownResult' % c) for c in "wb"],
+    ("Tournament", "(record { id = s .id; colour = s .colour; result = blankAs", "(record { id = cond (isBlank (s .result)) 0 (s .id); colour = s .colour; result = blankAs"),
+    *[("Entries", "among (e .colour) gameColours && among (e .result) heldGameResults", '%s && among (e .result) heldGameResults' % test) for test in (
+        '(among (e .colour) gameColours || eqb (e .result) unknownResult)', '(among (e .colour) gameColours && (not (eqb (e .result) unknownResult) || eqb (e .colour) (code "w")))')],
+    ("Entries", "isGame t p e = isAnother t p (e .id) &&", "isGame t p e = (isAnother t p (e .id) || eqb (e .result) unknownResult) &&"),
+    ("Entries", " ∷ (unknownResult ∷ unknownResult ∷ []) ∷ []", " ∷ []"),
+    *[("Entries", "(unknownResult ∷ unknownResult ∷ []) ∷", '(unknownResult ∷ unknownResult ∷ []) ∷ (unknownResult ∷ code "%s" ∷ []) ∷' % c) for c in "1=0WDL+-HFUZ"],
+    *[("Entries", "(unknownResult ∷ unknownResult ∷ []) ∷", '(unknownResult ∷ code "%s" ∷ []) ∷' % c) for c in "1=0WDL+-"],
+    *[("Entries", "(eqb result unknownResult) (s .unknown)", "(eqb result unknownResult) (s .%s)" % v) for v in VALUES if v != "unknown"],
+    ("Entries", "(eqb result unknownResult) (s .unknown)", "(eqb result unknownResult) 0"),
+    *[("Writing", "cond (eqb result unknownResult) blank result", other) for other in (
+        "result", 'cond (eqb result unknownResult) (code "Z") result', 'cond (eqb result unknownResult) (code "=") result', 'cond (eqb result unknownResult) blank (cond (eqb result (code "=")) blank result)',
+        'cond (eqb result unknownResult) blank (cond (eqb result (code "Z")) blank result)')],
     ("Entries", "entryOf r p = getD (p .entries) (r - 1) noEntry", "entryOf r p = getD (p .entries) r noEntry"),
     ("Entries", "statesSum t place = eqb (playerAt t place .points)", "statesSum t place = eqb (playerAt t 0 .points)"),
     # letters, columns and defaults
@@ -618,7 +638,7 @@ def said(room, crate):
 class Rows:
     """The rows of the crate `guards` by section, in modules of the copy of law: so they are computed even where a proof of law is broken, and not where a change does not reach them."""
 
-    DEAR = ("001 lines", "what a result earns", "once only", "a round's entry")
+    DEAR = ("001 lines", "what a result earns", "once only", "a round's entry", "results that are not known yet")
     # where the changes of a file fail, if they were not tried before
     LIKELY = {"Players": "001 lines", "proofs/RecordsRead": "lines that spell none", "Lawful": "no row"}
 

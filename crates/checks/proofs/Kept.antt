@@ -12,7 +12,7 @@ use lib.Dec.{eqb}
 use lib.ListN.{getD}
 use Rattle.kit.specs.Lists.{among}
 use Rattle.types.specs.declared.Place.{Place}
-use Rattle.law.specs.Players.{gameColours, gameResults}
+use Rattle.law.specs.Players.{gameColours, heldGameResults}
 use Rattle.law.specs.Entries.{isBye, fits, Law, bye-or-game, mutual-pairing, fitting-results, one-U}
 use Rattle.law.specs.Tables.{cellOf}
 use Rattle.join.specs.Grid.{firstFrom}
@@ -35,7 +35,7 @@ unfolding isGameBy
 game-nobody id colour result start o a b = rw (told-nobody o a b, and-false (not (eqb id start))) refl
 
 pub game-somebody : (id colour result start : ℕ) (o : Option ℕ) {placed : Placed} {place : Place} {ofColour ofResult : Bool}
-    → placed ≡ asPlaced o → placed ≡ At place → ofColour ≡ among colour gameColours → ofResult ≡ among result gameResults
+    → placed ≡ asPlaced o → placed ≡ At place → ofColour ≡ among colour gameColours → ofResult ≡ among result heldGameResults
     → not (eqb id start) && ofColour && ofResult ≡ isGameBy (entry id colour result) start o
 unfolding isGameBy
 game-somebody id colour result start o a b p q = rw (told-place o a b, and-true (not (eqb id start)), p, q) refl

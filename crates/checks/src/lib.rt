@@ -58,7 +58,7 @@ fn is_game(id: StartNumber, colour: u8, result: u8, start: StartNumber, opponent
         return false;
     };
     let of_colour = is_game_colour(colour);
-    let of_result = results::is_game_result(result);
+    let of_result = results::is_held_game_result(result);
     (id.0 != start.0) & of_colour & of_result
 }
 

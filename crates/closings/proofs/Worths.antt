@@ -4,13 +4,14 @@ use mathlib.Core.Bool.{Bool, true, false, cond}
 use mathlib.Core.List.{List, [], _∷_}
 use Prim.Native.Nat.{ℕ, zero, suc, _≤_}
 use native.Mathlib.Omega.{arith}
-use lib.Dec.{leb}
+use lib.Dec.{eqb, leb}
 use lib.ListN.{getD}
 use borrow.Author.Tests.{leb-true}
 use Rattle.kit.specs.Ascii.{ascii}
 use Rattle.kit.specs.Lists.{among}
 use Rattle.kit.proofs.Bools.{and}
 use Rattle.law.specs.Sizes.{mostPoints}
+use Rattle.law.specs.Players.{unknownResult}
 use Rattle.join.specs.Check.{worthBy}
 use Rattle.closings.specs.Values.{areSmall}
 
@@ -30,4 +31,5 @@ worth-small v result e =
     (either (among result (ascii "=DH")) _ _ (small-at v 1 e)
     (either (among result (ascii "0L")) _ _ (small-at v 2 e)
     (either (among result (ascii "-Z")) _ _ (small-at v 3 e)
-    (either (among result (ascii "U")) _ _ (small-at v 4 e) (omega arith)))))
+    (either (among result (ascii "U")) _ _ (small-at v 4 e)
+    (either (eqb result unknownResult) _ _ (small-at v 5 e) (omega arith))))))

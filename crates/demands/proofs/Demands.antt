@@ -13,6 +13,7 @@ use Rattle.written.proofs.Readings.{one-reading, writes-once, asks-once}
 use Rattle.demands.specs.Demands.{Demand-1, Demand-2, Demand-3}
 use Rattle.demands.proofs.OwnValues.{default-values, own-pairing, own-unknown}
 use Rattle.demands.proofs.Fitting.{results-fit}
+use Rattle.demands.proofs.Unknown.{unknown-held, unknown-written}
 use Rattle.demands.proofs.ReadBack.{read-back}
 use Rattle.demands.proofs.OfReadings.{read-number, read-first, read-short, read-exactly, read-columns, accepts-exactly, read-held, spelled, read-each}
 use Rattle.demands.proofs.OfWritings.{write-number, write-first, write-untouched, write-exactly, write-short, write-bytes, write-spells, read-written, ask-number, ask-first, ask-exactly, ask-short, ask-values}
@@ -50,6 +51,8 @@ demand-2 =
       own-pairing = own-pairing;
       own-unknown = own-unknown;
       results-fit = results-fit;
+      unknown-held = unknown-held;
+      unknown-written = unknown-written;
       reading-refusals = read-exactly;
       writing-refusals = write-exactly;
       question-refusals = ask-exactly;

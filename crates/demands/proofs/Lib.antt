@@ -1,6 +1,7 @@
 pub mod WrongReaders
 pub mod OwnValues
 pub mod Fitting
+pub mod Unknown
 pub mod ReadBack
 pub mod OfReadings
 pub mod OfWritings

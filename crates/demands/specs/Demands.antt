@@ -3,9 +3,9 @@
 -- marked rows in `crates/law/proofs/Marked`. Definitions alone: `proofs/Demands` proves each demand, as one theorem.
 use mathlib.Core.Path.{_≡_}
 use mathlib.Core.Logic.{_↔_}
-use mathlib.Core.Bool.{true, false}
+use mathlib.Core.Bool.{true, false, _&&_}
 use mathlib.Core.List.{List, [], _∷_, _++_, map}
-use Prim.Native.Nat.{ℕ, _≤_, _<_}
+use Prim.Native.Nat.{ℕ, _+_, _*_, _≤_, _<_}
 use Prim.Native.Char.{code}
 use lib.ListN.{length, getD, take, drop}
 use Rattle.kit.specs.Ascii.{ascii}
@@ -17,17 +17,18 @@ use Rattle.types.specs.declared.Score.{Score}
 use Rattle.types.specs.declared.Place.{Place}
 use Rattle.law.specs.Sizes.{mostFile, mostPlayers, mostAccelerations, mostText}
 use Rattle.law.specs.Lines.{End, Line, Lines}
+use Rattle.law.specs.Columns.{col}
 use Rattle.law.specs.Scoring.{Scoring, lettersOf}
 use Rattle.law.specs.Accelerations.{accelerationCode}
-use Rattle.law.specs.Players.{playerCode}
+use Rattle.law.specs.Players.{playerCode, Slot}
 use Rattle.law.specs.Items.{Item}
-use Rattle.law.specs.Tournament.{Tournament, scoringIn, tournamentOf}
-use Rattle.law.specs.Entries.{fits, worth}
+use Rattle.law.specs.Tournament.{Player, Tournament, normal, scoringIn, tournamentOf}
+use Rattle.law.specs.Entries.{playerAt, entryOf, isAnother, isGame, fits, worth}
 use Rattle.law.specs.Lawful.{Lawful, noAcceleration}
 use Rattle.law.specs.Spelling.{SpellsLine, SpellsFile}
 use Rattle.law.specs.Tables.{Tables, Lent, keptCells, entryCells, enough, enoughLent, contentOf, linesContent, zeros, HoldAll, HoldLent, answerOf}
 use Rattle.law.specs.Refusals.{linesOf, Refusal, refusal, noRefusal, Refused}
-use Rattle.law.specs.Writing.{writtenLines, written, longest, earnedBefore, accelerationFor}
+use Rattle.law.specs.Writing.{playerLine, writtenLines, written, longest, earnedBefore, accelerationFor}
 use Rattle.law.specs.Calls.{refusedAnswer, Reads, Reading, Denial, denialOf, endOf, WriterDenies, writerDenials, writtenAnswer, Writes, QuestionDenies, questionDenials, scoreAnswer, Asks}
 use Rattle.law.proofs.Rows.{RowHolds}
 use Rattle.law.proofs.Marked.{rows}
@@ -72,18 +73,19 @@ pub record Demand-1 : Type 0 where
 abbrev pub NotGiven : ℕ → List Item → Type 0
 NotGiven letter items = among letter (lettersOf (onlyOr [] (flat scoringIn items))) ≡ false
 
--- ---- all ways in which results fit, the player's own first; the last three by document 02: "0 with 0 now fits, and = with 0 either way round"
+-- ---- all ways in which results fit, the player's own first; the last four by document 02: "0 with 0 now fits, and = with 0 either way round", and an unknown result "fits only
+-- another unknown"
 abbrev pub fittingWays : List (List ℕ)
-fittingWays = ascii "10" ∷ ascii "01" ∷ ascii "==" ∷ ascii "WL" ∷ ascii "LW" ∷ ascii "DD" ∷ ascii "+-" ∷ ascii "-+" ∷ ascii "--" ∷ ascii "00" ∷ ascii "=0" ∷ ascii "0=" ∷ []
+fittingWays = ascii "10" ∷ ascii "01" ∷ ascii "==" ∷ ascii "WL" ∷ ascii "LW" ∷ ascii "DD" ∷ ascii "+-" ∷ ascii "-+" ∷ ascii "--" ∷ ascii "00" ∷ ascii "=0" ∷ ascii "0=" ∷ ascii "??" ∷ []
 
 pub record Demand-2 : Type 0 where
   -- "Reading [..] follow[s] document 01: every column": an accepted file's lines spell items, column by column (`SpellsItem`), and the answer and every cell, line numbers
   -- too, are those of what the items say together
   pub columns : EveryReading (λ file before a after. a .number ≡ 0 → (lines : List Line) × (items : List Item) × Lines file lines × Each SpellsLine lines items
       × (a ≡ answerOf (tournamentOf items)) × HoldLent (contentOf (tournamentOf items)) (linesContent (linesOf playerCode 0 lines) (linesOf accelerationCode 0 lines)) before after)
-  -- "every result code's worth", by which 16 tests the points (`statesSum`) and a question is answered (`values`)
-  pub worths : (s : Scoring) → map (worth s) (ascii "1W+F=DH0L-ZU")
-      ≡ s .win ∷ s .win ∷ s .win ∷ s .win ∷ s .draw ∷ s .draw ∷ s .draw ∷ s .loss ∷ s .loss ∷ s .absent ∷ s .absent ∷ s .pairing ∷ []
+  -- "every result code's worth", by which 16 tests the points (`statesSum`) and a question is answered (`values`); document 02: an unknown result "earns X"
+  pub worths : (s : Scoring) → map (worth s) (ascii "1W+F=DH0L-ZU?")
+      ≡ s .win ∷ s .win ∷ s .win ∷ s .win ∷ s .draw ∷ s .draw ∷ s .draw ∷ s .loss ∷ s .loss ∷ s .absent ∷ s .absent ∷ s .pairing ∷ s .unknown ∷ []
   -- "A letter that is not given keeps its default: W 1.0, D 0.5, L 0.0, A 0.0", in what the items say together (`columns`)
   pub default-values : (items : List Item) → (NotGiven (code "W") items → tournamentOf items .scoring .win ≡ 10) × (NotGiven (code "D") items → tournamentOf items .scoring .draw ≡ 5)
       × (NotGiven (code "L") items → tournamentOf items .scoring .loss ≡ 0) × (NotGiven (code "A") items → tournamentOf items .scoring .absent ≡ 0)
@@ -92,6 +94,13 @@ pub record Demand-2 : Type 0 where
   pub own-unknown : (items : List Item) → NotGiven (code "X") items → tournamentOf items .scoring .unknown ≡ tournamentOf items .scoring .draw
   -- "Results that fit", by which 14 is given: of all bytes these, and no others
   pub results-fit : (own theirs : ℕ) → fits own theirs ≡ isOneOf (own ∷ theirs ∷ []) fittingWays
+  -- document 02: "An entry with an opponent, a colour `w` or `b` and a blank result is an unknown result. [..] The tables hold `?` there": a blank beside any id is held as `?`, and
+  -- the entry is a game exactly when the id is another player's and the colour is `w` or `b`
+  pub unknown-held : (t : Tournament) (p : Player) (s : Slot) → 1 ≤ s .id → s .result ≡ code " "
+      → (normal s ≡ record { id = s .id; colour = s .colour; result = code "?" }) × (isGame t p (normal s) ≡ isAnother t p (s .id) && among (s .colour) (ascii "wb"))
+  -- "the writer puts a blank", at the result's column of round r, and the line has "exactly 89+10R bytes" with it
+  pub unknown-written : (t : Tournament) → Lawful t → (place r : ℕ) → place < length (t .players) → 1 ≤ r → r ≤ t .rounds → entryOf r (playerAt t place) .result ≡ code "?"
+      → (col (playerLine (playerAt t place)) (89 + 10 * r) ≡ code " ") × (length (playerLine (playerAt t place)) ≡ 89 + 10 * t .rounds)
   -- "every refusal with its place": given exactly when it is the first fault
   pub reading-refusals : EveryReading (λ file before a after. (x : Refusal) → (a ≡ refusedAnswer x) ↔ Refused (enoughLent before) file x)
   pub writing-refusals : EveryWriting (λ end a tables before w after. (d : Denial) → (w ≡ writtenAnswer (denialOf d) 0) ↔ FirstIn (WriterDenies end a tables (length before)) writerDenials d)

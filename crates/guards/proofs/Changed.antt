@@ -1,14 +1,19 @@
 -- Tables and answer that no accepted file has, over every content: writer and question answer 18, whatever the line ends, the room, the place and the round. Assumes nothing.
 use mathlib.Core.Path.{_≡_, refl, sym, ap, _∙_, subst}
-use mathlib.Core.Bool.{Bool, true, false, _||_}
+use mathlib.Core.Bool.{Bool, true, false, _||_, and-false}
 use mathlib.Core.Option.{none}
 use mathlib.Core.List.{List, [], _∷_, map}
 use Prim.Native.Nat.{ℕ, zero, suc, _<_, _≤_}
+use Prim.Native.Char.{code}
+use native.Mathlib.Omega.{arith}
 use lib.Dec.{eqb, leb}
 use lib.ListN.{length, getD, List·getD-eq-default}
-use Rattle.kit.specs.Lists.{all, among, flat}
-use Rattle.kit.proofs.Bools.{clash}
-use Rattle.kit.proofs.Firsts.{all-of-at}
+use borrow.Author.Tests.{eqb-true}
+use Rattle.kit.specs.Ascii.{ascii}
+use Rattle.kit.specs.Lists.{all, any, among, flat}
+use Rattle.kit.specs.First.{AllOf}
+use Rattle.kit.proofs.Bools.{clash, not-so}
+use Rattle.kit.proofs.Firsts.{all-of-at, any-of}
 use Rattle.types.specs.declared.Answer.{Answer}
 use Rattle.types.specs.declared.Written.{Written}
 use Rattle.types.specs.declared.Score.{Score}
@@ -16,10 +21,10 @@ use Rattle.types.specs.declared.Place.{Place}
 use Rattle.law.specs.Sizes.{mostPlayers, mostText, mostPoints, isStart}
 use Rattle.law.specs.Lines.{End}
 use Rattle.law.specs.Heads.{initialColours}
-use Rattle.law.specs.Tournament.{Player}
+use Rattle.law.specs.Tournament.{Entry, Player, Tournament}
 use Rattle.law.specs.Text.{ended}
-use Rattle.law.specs.Entries.{noPlayer, entryOf}
-use Rattle.law.specs.Lawful.{LawfulPlayer}
+use Rattle.law.specs.Entries.{noPlayer, playerAt, entryOf, isBye, isGame, bye-or-game, keeps}
+use Rattle.law.specs.Lawful.{LawfulPlayer, Sits, Lawful}
 use Rattle.law.specs.Tables.{Tables, enough, entryCells, placeIn, roundIn, contentOf, answerOf}
 use Rattle.law.specs.Calls.{NoReading, writtenAnswer, Writes, scoreAnswer, Asks}
 use Rattle.law.proofs.Readings.{reading-has}
@@ -34,6 +39,11 @@ start-at : (l : List Player) (i : ℕ) → getD (map (λ (p : Player). p .start)
 start-at [] i = refl
 start-at (p ∷ l) zero = refl
 start-at (p ∷ l) (suc i) = start-at l i
+
+no-start-zero : (R : ℕ) (ps : List Player) → AllOf (LawfulPlayer R) ps → any (λ q. eqb (q .start) 0) ps ≡ false
+no-start-zero R ps k = not-so (any (λ q. eqb (q .start) 0) ps) (λ e.
+    let q = any-of (LawfulPlayer R) (λ q. eqb (q .start) 0) ps k e in
+    clash (sym (ap isStart (eqb-true (q .0 .start) 0 (q .1))) ∙ q .2 .start))
 
 module _ (answer : Answer) (tables : Tables) (long : enough tables ≡ true) where
   denied : NoReading answer tables → Denied answer tables
@@ -88,3 +98,30 @@ module _ (answer : Answer) (tables : Tables) (long : enough tables ≡ true) whe
   no-value e = denied (λ file t r.
       let k = reading-has answer tables file t r in
       clash (sym e ∙ ap (λ (a : Answer). all (λ v. leb v mostPoints) (a .values)) (k .1 .says) ∙ k .0 .scoring))
+
+  -- an entry in use that is neither bye nor game by the id and the result in its cells
+  module _ (i : ℕ) (counted : placeIn i < answer .players) (in-rounds : roundIn i ≤ answer .rounds) (inside : i < entryCells) where
+    neither : ((t : Tournament) (p : Player) (e : Entry) → Lawful t → e .id ≡ getD (tables .opponents) i 0 → e .result ≡ getD (tables .results) i 0 → isBye e || isGame t p e ≡ false) → Denied answer tables
+    unfolding contentOf answerOf keeps
+    neither is-none = denied (λ file t r.
+        let k = reading-has answer tables file t r in
+        let h = k .1 in
+        let p : Player = playerAt t (placeIn i) in
+        let sits : Sits t (placeIn i) (roundIn i) =
+        record {
+          place-in = subst (λ (a : Answer). placeIn i < a .players) (h .says) counted;
+          round-low = omega arith;
+          round-high = subst (λ (a : Answer). roundIn i ≤ a .rounds) (h .says) in-rounds;
+        } in
+        clash (sym (is-none t p (entryOf (roundIn i) p) (k .0) (sym (h .holds .opponents .cells i inside)) (sym (h .holds .results .cells i inside))) ∙ k .0 .entries bye-or-game (placeIn i) (roundIn i) sits))
+
+    -- an unknown result where there is no opponent
+    pub unknown-bye : getD (tables .opponents) i 0 ≡ 0 → getD (tables .results) i 0 ≡ code "?" → Denied answer tables
+    unfolding isBye isGame
+    unknown-bye nobody unknown = neither (λ t p e law id-is result-is.
+        rw (id-is, nobody, result-is, unknown, no-start-zero (t .rounds) (t .players) (law .players)) (simp and-false))
+
+    -- a byte that no entry has for a result: a small letter, or the blank that a line has for an unknown one
+    pub no-result : among (getD (tables .results) i 0) (ascii "?1=0WDL+-") ≡ false → among (getD (tables .results) i 0) (ascii "HFUZ") ≡ false → Denied answer tables
+    unfolding isBye isGame
+    no-result no-game no-bye = neither (λ t p e law id-is result-is. rw (result-is, no-game, no-bye) (simp and-false))

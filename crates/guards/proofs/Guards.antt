@@ -22,10 +22,10 @@ use Rattle.law.specs.Writing.{writtenLines, written, earnedBefore, acceleration
 use Rattle.law.specs.Calls.{refusedAnswer, writtenAnswer, scoreAnswer}
 use Rattle.law.proofs.RecordsRead.{itemOf}
 use Rattle.law.proofs.Judges.{outcomeOf}
-use Rattle.law.proofs.Rows.{starts, points, ranks, results, added, first-rounds, last-rounds, first-starts, last-starts, initial-colour, value, as-left, cut-short, cr-lf, cr-alone, Row, refuses, accepts, answers, scores, stores, writes, asks, fitting, spells, spells-nothing, RowHolds, test, Computed}
+use Rattle.law.proofs.Rows.{starts, points, ranks, opponents, colours, results, added, first-rounds, last-rounds, first-starts, last-starts, initial-colour, value, as-left, cut-short, cr-lf, cr-alone, Row, refuses, accepts, answers, scores, stores, writes, asks, fitting, spells, spells-nothing, RowHolds, test, Computed}
 use Rattle.law.proofs.Samples.{all-computed}
 use Rattle.law.proofs.Marked.{line, cup, roe, poe, sampleT}
-use Rattle.law.proofs.Layouts.{put, person, keptRow, rowWith, rowOfTexts, crlf-line, withLF, alone, two, twoAt, after, note, fullText, scoring, threePoints, aloneWithU, roeLine, event, eventWritten, highest, accelerated, setByArbiter, wrongSum}
+use Rattle.law.proofs.Layouts.{put, person, keptRow, rowWith, rowOfTexts, crlf-line, withLF, alone, two, twoAt, after, note, fullText, scoring, threePoints, aloneWithU, roeLine, event, eventWritten, highest, accelerated, setByArbiter, beingPlayed, beingPlayedWritten, wrongSum}
 
 -- one line, or a 001 line with one kept text, spells an item or none
 abbrev pub right : String → Row
@@ -112,10 +112,11 @@ guardRows =
     -- every colour and result, capital and small, is a byte of a round
     (spells (rowWith ((92, "0000 w 1  0000 b =  0000 - 0  0000   W  0000   D  0000   L  0000   +  0000   -  0000   H  0000   F  0000   U  0000   Z  0000   w  0000   d  0000   l  0000   h  0000   f  0000   u  0000   z") ∷ [])), refl) ∷
     -- ---- which results fit, from either side
-    (fitting (code "1") (ascii "0") (ascii "1=WDL+-HFUZ"), refl) ∷ (fitting (code "=") (ascii "=0") (ascii "1WDL+-HFUZ"), refl) ∷
-    (fitting (code "0") (ascii "1=0") (ascii "WDL+-HFUZ"), refl) ∷ (fitting (code "W") (ascii "L") (ascii "1=0WD+-HFUZ"), refl) ∷
-    (fitting (code "D") (ascii "D") (ascii "1=0WL+-HFUZ"), refl) ∷ (fitting (code "L") (ascii "W") (ascii "1=0DL+-HFUZ"), refl) ∷
-    (fitting (code "+") (ascii "-") (ascii "1=0WDL+HFUZ"), refl) ∷ (fitting (code "-") (ascii "+-") (ascii "1=0WDLHFUZ"), refl) ∷
+    (fitting (code "1") (ascii "0") (ascii "1=WDL+-HFUZ?"), refl) ∷ (fitting (code "=") (ascii "=0") (ascii "1WDL+-HFUZ?"), refl) ∷
+    (fitting (code "0") (ascii "1=0") (ascii "WDL+-HFUZ?"), refl) ∷ (fitting (code "W") (ascii "L") (ascii "1=0WD+-HFUZ?"), refl) ∷
+    (fitting (code "D") (ascii "D") (ascii "1=0WL+-HFUZ?"), refl) ∷ (fitting (code "L") (ascii "W") (ascii "1=0DL+-HFUZ?"), refl) ∷
+    (fitting (code "+") (ascii "-") (ascii "1=0WDL+HFUZ?"), refl) ∷ (fitting (code "-") (ascii "+-") (ascii "1=0WDLHFUZ?"), refl) ∷
+    (fitting (code "?") (ascii "?") (ascii "1=0WDL+-HFUZ "), refl) ∷
     -- ---- refused answers: 18, with room and without, at any place; tables that are too short: 1, whatever else is wrong
     (writes as-left [] ((cr-lf, 700, 18, []) ∷ (cr-alone, 0, 18, []) ∷ []), refl) ∷
     (asks as-left wrongSum ((0, 1, 18, 0, 0) ∷ (2, 0, 18, 0, 0) ∷ []), refl) ∷ (asks as-left [] ((0, 1, 18, 0, 0) ∷ (0, 0, 18, 0, 0) ∷ []), refl) ∷
@@ -200,7 +201,7 @@ guardRows =
     (scores (ascii scoring) (ascii "F") 30, refl) ∷ (scores (ascii scoring) (ascii "=") 10, refl) ∷ (scores (ascii scoring) (ascii "D") 10, refl) ∷
     (scores (ascii scoring) (ascii "H") 10, refl) ∷ (scores (ascii scoring) (ascii "0") 2, refl) ∷ (scores (ascii scoring) (ascii "L") 2, refl) ∷
     (scores (ascii scoring) (ascii "-") 1, refl) ∷ (scores (ascii scoring) (ascii "Z") 1, refl) ∷ (scores (ascii scoring) (ascii "U") 20, refl) ∷
-    (scores (ascii "162  X 0.7") (ascii "1W+F=DH0L-ZU") 65, refl) ∷ (scores (ascii scoring) (ascii "1W+F=DH0L-ZU") 176, refl) ∷
+    (scores (ascii "162  X 0.7") (ascii "1W+F=DH0L-ZU?") 72, refl) ∷ (scores (ascii scoring) (ascii "1W+F=DH0L-ZU?") 183, refl) ∷
     (refuses (cup ++ (alone ++ (person "   2" " 0.0" "   2" [] ++ person "   3" "10.0" "   3" []))) 16 4 0, refl) ∷
     -- ---- lines and terminators
     (accepts (cup ++ (13 ∷ 13 ∷ 10 ∷ alone)) 1 0 0, refl) ∷
@@ -251,7 +252,7 @@ entryRows =
     -- an entry names a start number, not a rank
     (accepts (cup ++ (person "   1" " 1.0" "   2" ((92, "   2 w 1") ∷ []) ++ person "   2" " 0.0" "   1" ((92, "   1 b 0") ∷ []))) 2 1 0, refl) ∷
     -- neither bye nor game
-    (refuses (two " 0.0" "   2 w  " " 0.0" "   1 b 0") 12 2 1, refl) ∷ (refuses (two " 0.0" "   2   1" " 0.0" "   1 b 0") 12 2 1, refl) ∷
+    (refuses (two " 0.0" "   2   1" " 0.0" "   1 b 0") 12 2 1, refl) ∷
     (refuses (two " 0.0" "   2 - 1" " 0.0" "   1 b 0") 12 2 1, refl) ∷ (refuses (two " 0.0" "   2 - Z" " 0.0" "0000 - Z") 12 2 1, refl) ∷ (refuses (two " 0.0" "   2 w H" " 0.0" "   1 b 0") 12 2 1, refl) ∷
     (refuses (two " 0.0" "   3 w 1" " 0.0" "   1 b 0") 12 2 1, refl) ∷ (refuses (two " 0.0" "0000 w Z" " 0.0" "0000 - Z") 12 2 1, refl) ∷
     (refuses (two " 0.0" "0000 - -" " 0.0" "0000 - Z") 12 2 1, refl) ∷ (refuses (two " 0.0" "0000 - 1" " 0.0" "0000 - Z") 12 2 1, refl) ∷
@@ -295,3 +296,48 @@ entryRows =
 
 pub entries-guarded : AllOf (λ (c : Computed). RowHolds (c .0)) entryRows
 entries-guarded = all-computed entryRows
+
+-- apart for the same reason
+unfoldable pub unknownRows : List Computed
+unfolding put person two twoAt beingPlayed beingPlayedWritten withLF scoring threePoints line cup test cells flat top scoringOf shares covers kindOf normal usedRounds roundsOf tournamentOf isBye isGame fits keeps worth earned isPast contentOf answerOf isAgain isTooMany linesOf isFileFault labels writtenLines written earnedBefore accelerationFor refusedAnswer writtenAnswer scoreAnswer itemOf outcomeOf
+unknownRows =
+    -- ---- results that are not known yet
+    -- another player, a colour and a blank, in any round; the line may end before its blank
+    (accepts (two " 0.5" "   2 w  " " 0.5" "   1 b  ") 2 1 0, refl) ∷ (accepts (two " 0.5" "   2 b" " 0.5" "0001 w ") 2 1 0, refl) ∷ (accepts (twoAt 282 " 0.5" "   2 w" " 0.5" "   1 b  ") 2 20 0, refl) ∷
+    -- no colour of a game, nobody's id, the player's own id, no id: neither bye nor game
+    (refuses (two " 0.5" "   2    " " 0.5" "   1 b  ") 12 2 1, refl) ∷ (refuses (two " 0.5" "   2 -  " " 0.5" "   1 b  ") 12 2 1, refl) ∷ (refuses (two " 0.5" "   2" " 0.5" "   1") 12 2 1, refl) ∷
+    (refuses (two " 0.5" "   2 -" " 0.5" "   1 -") 12 2 1, refl) ∷ (refuses (two " 0.5" "   2 w  " " 0.5" "   1") 12 3 1, refl) ∷ (refuses (two " 0.5" "   2 w  " " 0.5" "   1 -") 12 3 1, refl) ∷
+    (refuses (two " 0.5" "   3 w  " " 0.5" "   1 b  ") 12 2 1, refl) ∷ (refuses (two " 0.5" "   1 w  " " 0.5" "   1 b  ") 12 2 1, refl) ∷ (refuses (two " 0.5" "   2 w  " " 0.5" "   2 b  ") 12 3 1, refl) ∷
+    (refuses (two " 0.5" "0000 w  " " 0.0" "0000 - Z") 12 2 1, refl) ∷ (refuses (twoAt 282 " 0.5" "   2" " 0.5" "   1 b") 12 2 20, refl) ∷
+    -- against a result that is known: 14, at the first of the two in the file, whichever it is
+    (refuses (two " 0.5" "   2 w  " " 0.0" "   1 b 1") 14 2 1, refl) ∷ (refuses (two " 0.5" "   2 w  " " 0.5" "   1 b =") 14 2 1, refl) ∷ (refuses (two " 0.5" "   2 w  " " 0.0" "   1 b 0") 14 2 1, refl) ∷
+    (refuses (two " 0.5" "   2 w  " " 0.5" "   1 b D") 14 2 1, refl) ∷ (refuses (two " 0.5" "   2 w  " " 0.0" "   1 b -") 14 2 1, refl) ∷ (refuses (two " 1.0" "   2 w +" " 0.5" "   1 b  ") 14 2 1, refl) ∷
+    (refuses (two " 0.0" "   2 w 0" " 0.5" "   1 b") 14 2 1, refl) ∷ (refuses (twoAt 112 " 0.0" "   2 w L" " 0.5" "   1 b") 14 2 3, refl) ∷
+    (refuses (cup ++ (person "   9" " 0.5" "   2" ((92, "   4 b") ∷ []) ++ person "   4" " 1.0" "   1" ((92, "   9 w 1") ∷ []))) 14 2 1, refl) ∷
+    -- against a bye, another's entry, the same colour: 13, over the whole file before 14
+    (refuses (two " 0.5" "   2 w  " " 0.0" "0000 - Z") 13 2 1, refl) ∷ (refuses (two " 0.0" "0000 - Z" " 0.5" "   1 b  ") 13 3 1, refl) ∷ (refuses (two " 0.5" "   2 w" " 0.0" "        ") 13 2 1, refl) ∷
+    (refuses (two " 0.5" "   2 w  " " 0.5" "   1 w  ") 13 2 1, refl) ∷ (refuses (two " 0.5" "   2 b  " " 0.5" "   1 b  ") 13 2 1, refl) ∷
+    (refuses (cup ++ (person "   1" " 0.5" "   1" ((92, "   2 w  ") ∷ []) ++ (person "   2" " 0.5" "   2" ((92, "   1 b  ") ∷ []) ++ person "   3" " 0.5" "   3" ((92, "   1 b  ") ∷ [])))) 13 4 1, refl) ∷
+    (refuses (cup ++ (person "   1" " 1.0" "   1" ((92, "   2 w =     2 w") ∷ []) ++ person "   2" " 1.0" "   2" ((92, "   1 b       1 w") ∷ []))) 13 2 2, refl) ∷
+    -- past the rounds of 142: 11; with no 142 it makes its round a used one
+    (refuses (two " 0.5" "   2 w  " " 0.5" "   1 b  " ++ line "142 0") 11 2 1, refl) ∷ (refuses (twoAt 132 " 0.5" "   2 w" " 0.5" "   1 b" ++ line "142 4") 11 2 5, refl) ∷
+    (accepts (twoAt 132 " 0.5" "   2 w" " 0.5" "   1 b") 2 5 0, refl) ∷
+    -- it earns X: given, by the event's own D, by default
+    (scores (ascii scoring) (ascii "?") 7, refl) ∷ (scores (ascii threePoints) (ascii "?") 10, refl) ∷ (scores (ascii "162  D 0.3") (ascii "??") 6, refl) ∷ (scores (ascii "162  W 3.0") (ascii "???") 15, refl) ∷
+    (accepts (line scoring ++ two " 0.7" "   2 w" " 0.7" "   1 b") 2 1 0, refl) ∷ (accepts (line "162  D 0.3" ++ two " 0.3" "   2 w" " 0.3" "   1 b") 2 1 0, refl) ∷
+    (accepts (line "162  X 0.0" ++ two " 0.0" "   2 w" " 0.0" "   1 b") 2 1 0, refl) ∷ (refuses (line scoring ++ two " 0.7" "   2 w" " 1.0" "   1 b") 16 4 0, refl) ∷
+    (refuses (line threePoints ++ two " 0.5" "   2 w" " 1.0" "   1 b") 16 3 0, refl) ∷ (refuses (two " 0.0" "   2 w" " 0.0" "   1 b") 16 2 0, refl) ∷
+    -- on a line `?` is no result
+    (refuses (two " 0.5" "   2 w ?" " 0.5" "   1 b ?") 7 2 0, refl) ∷ (refuses (two " 0.5" "   2 w  " " 0.5" "   1 b ?") 7 3 0, refl) ∷ (refuses (two " 0.0" "0000 - ?" " 0.0" "0000 - Z") 7 2 0, refl) ∷
+    -- an event in the middle of a round is read, written and asked for
+    (
+      stores beingPlayed
+          ((opponents, 1, 3) ∷ (colours, 1, code "b") ∷ (results, 0, code "1") ∷ (results, 1, code "?") ∷ (results, 2, code "Z") ∷ (results, 21, code "0") ∷ (opponents, 41, 1) ∷ (colours, 41, code "w") ∷ (results, 41, code "?") ∷ (results, 61, code "1") ∷
+          (points, 0, 17) ∷ (points, 2, 12) ∷ (value, 1, 5) ∷ (value, 5, 7) ∷ []),
+      refl,
+    ) ∷
+    (writes as-left beingPlayed ((cr-alone, 550, 0, beingPlayedWritten) ∷ (cr-alone, 549, 19, []) ∷ (cr-lf, 557, 0, withLF beingPlayedWritten) ∷ (cr-lf, 556, 19, []) ∷ []), refl) ∷
+    (asks as-left beingPlayed ((0, 2, 0, 10, 0) ∷ (0, 3, 0, 17, 0) ∷ (1, 3, 0, 0, 0) ∷ (2, 2, 0, 5, 0) ∷ (2, 3, 0, 12, 0) ∷ (3, 3, 0, 15, 0) ∷ []), refl) ∷ []
+
+pub unknown-guarded : AllOf (λ (c : Computed). RowHolds (c .0)) unknownRows
+unknown-guarded = all-computed unknownRows

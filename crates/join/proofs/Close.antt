@@ -16,7 +16,7 @@ use Rattle.kit.specs.Table.{Holds}
 use Rattle.kit.proofs.Firsts.{all-of-at}
 use Rattle.law.specs.Sizes.{mostPlayers, mostRounds}
 use Rattle.law.specs.Columns.{blank, isBlank, part}
-use Rattle.law.specs.Players.{Slot, PlayerLine}
+use Rattle.law.specs.Players.{unknownResult, Slot, PlayerLine}
 use Rattle.law.specs.Items.{colour}
 use Rattle.law.specs.Tournament.{Entry, Player, blankAs, normal, noSlot, slotAt, usedRounds, playerOf}
 use Rattle.law.specs.Entries.{noEntry, noPlayer, entryOf}
@@ -59,7 +59,7 @@ pub normal-colour : (s : Slot) → WellSlot s → normal s .colour ≡ 0 → ⊥
 unfolding normal
 normal-colour s w = go (eqb (s .id) 0)
   where
-    go : (v : Bool) → cond {A = Entry} v (record { id = 0; colour = blankAs (code "-") (s .colour); result = blankAs (code "Z") (s .result) }) (record { id = s .id; colour = s .colour; result = s .result }) .colour ≡ 0 → ⊥
+    go : (v : Bool) → cond {A = Entry} v (record { id = 0; colour = blankAs (code "-") (s .colour); result = blankAs (code "Z") (s .result) }) (record { id = s .id; colour = s .colour; result = blankAs unknownResult (s .result) }) .colour ≡ 0 → ⊥
     go true e = blank-as-some (code "-") (s .colour) (omega arith) (w .colour-there) e
     go false e = let k = w .colour-there in omega arith
 
@@ -67,9 +67,9 @@ pub normal-result : (s : Slot) → WellSlot s → normal s .result ≡ 0 → ⊥
 unfolding normal
 normal-result s w = go (eqb (s .id) 0)
   where
-    go : (v : Bool) → cond {A = Entry} v (record { id = 0; colour = blankAs (code "-") (s .colour); result = blankAs (code "Z") (s .result) }) (record { id = s .id; colour = s .colour; result = s .result }) .result ≡ 0 → ⊥
+    go : (v : Bool) → cond {A = Entry} v (record { id = 0; colour = blankAs (code "-") (s .colour); result = blankAs (code "Z") (s .result) }) (record { id = s .id; colour = s .colour; result = blankAs unknownResult (s .result) }) .result ≡ 0 → ⊥
     go true e = blank-as-some (code "Z") (s .result) (omega arith) (w .result-there) e
-    go false e = let k = w .result-there in omega arith
+    go false e = blank-as-some unknownResult (s .result) (omega arith) (w .result-there) e
 
 -- ---- lists by index
 pub map-at : {A B : Type 0} (f : A → B) (d : A) (e : B) (l : List A) (k : ℕ) → k < length l → getD (map f l) k e ≡ f (getD l k d)

@@ -14,7 +14,7 @@ use Rattle.kit.specs.Table.{Holds}
 use Rattle.types.specs.declared.Acceleration.{Acceleration}
 use Rattle.law.specs.Sizes.{mostPlayers, mostRounds}
 use Rattle.law.specs.Accelerations.{shares}
-use Rattle.law.specs.Players.{gameColours, gameResults}
+use Rattle.law.specs.Players.{gameColours, unknownResult, heldGameResults}
 use Rattle.law.specs.Tournament.{Entry}
 use Rattle.law.specs.Entries.{isBye, fits, Law, bye-or-game, mutual-pairing, fitting-results, one-U}
 use Rattle.law.specs.Lawful.{noAcceleration}
@@ -65,7 +65,7 @@ askedAt f (some q) = f q
 
 -- over the start numbers, the entry itself, and what the opponent's place holds
 unfoldable pub isGameBy : Entry → ℕ → Option ℕ → Bool
-isGameBy e start o = not (eqb (e .id) start) && isSome o && among (e .colour) gameColours && among (e .result) gameResults
+isGameBy e start o = not (eqb (e .id) start) && isSome o && among (e .colour) gameColours && among (e .result) heldGameResults
 
 unfoldable pub answersBy : ℕ → Entry → Entry → Bool
 answersBy start e theirs = eqb (theirs .id) start && not (eqb (theirs .colour) (e .colour))
@@ -93,7 +93,8 @@ worthBy v result =
     (cond (among result (ascii "=DH")) (getD v 1 0)
     (cond (among result (ascii "0L")) (getD v 2 0)
     (cond (among result (ascii "-Z")) (getD v 3 0)
-    (cond (among result (ascii "U")) (getD v 4 0) 0))))
+    (cond (among result (ascii "U")) (getD v 4 0)
+    (cond (eqb result unknownResult) (getD v 5 0) 0)))))
 
 unfoldable pub sumAt : List ℕ → List ℕ → ℕ → ℕ → ℕ
 sumAt v results place R = sumFrom (λ j. worthBy v (getD results (cellOf place (j + 1)) 0)) 0 R

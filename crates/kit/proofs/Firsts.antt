@@ -8,7 +8,7 @@ use lib.ListN.{length, getD}
 use native.Mathlib.Omega.{arith}
 use lib.Dec.{eqb}
 use borrow.Author.Tests.{eqb-true}
-use Rattle.kit.specs.Lists.{among, first, flat}
+use Rattle.kit.specs.Lists.{any, among, first, flat}
 use Rattle.kit.specs.First.{AllOf, NoneOf, FirstIn}
 use Rattle.kit.specs.Decides.{Decides, Tests, orElse}
 use Rattle.kit.proofs.Bools.{clash}
@@ -54,6 +54,15 @@ pub all-of-at : {L : Type 0} (P : L → Type 0) (d : L) (l : List L) → AllOf P
 all-of-at P d [] h k m = absurd (omega arith)
 all-of-at P d (x ∷ l) h zero m = h .0
 all-of-at P d (x ∷ l) h (suc k) m = all-of-at P d l (h .1) k (omega arith)
+
+-- one of the list that a test finds
+pub any-of : {L : Type 0} (P : L → Type 0) (f : L → Bool) (l : List L) → AllOf P l → any f l ≡ true → (x : L) × (f x ≡ true) × P x
+any-of P f [] h e = clash e
+any-of P f (x ∷ l) h e = go (f x) refl e (any-of P f l (h .1))
+  where
+    go : (v : Bool) → f x ≡ v → v || any f l ≡ true → (any f l ≡ true → (x : _) × (f x ≡ true) × P x) → (x : _) × (f x ≡ true) × P x
+    go true u e ih = (x, u, h .0)
+    go false u e ih = ih e
 
 -- a list of things that are told apart by a number: what holds of all of it holds of each that stands in it, in whatever order
 module _ {A : Type 0} (number : A → ℕ) (back : ℕ → A) (again : (a : A) → back (number a) ≡ a) (P : A → Type 0) where

@@ -12,7 +12,7 @@ use Rattle.types.specs.declared.Acceleration.{Acceleration}
 use Rattle.law.specs.Text.{textCodes, ended}
 use Rattle.law.specs.Heads.{initialColours}
 use Rattle.law.specs.Scoring.{letters}
-use Rattle.law.specs.Players.{sexes, titles, gameColours, gameResults, byeResults, PlayerLine}
+use Rattle.law.specs.Players.{sexes, titles, gameColours, gameResults, byeResults, heldGameResults, PlayerLine}
 use Rattle.law.specs.Items.{Item, text, acceleration, player}
 use Rattle.law.specs.Tournament.{textIn, accelerationIn, playerIn}
 use Rattle.law.specs.Entries.{fittingPairs}
@@ -31,9 +31,9 @@ pub line-cells : lineCells ≡ 232
 line-cells = refl
 
 -- as many as each sentence lists, so that none is too many: the rows accept every one of them. Kept text, initial colours, letters, sexes, titles, game
--- colours, game results, bye results, pairs that fit
-pub as-many : length textCodes ∷ length initialColours ∷ length letters ∷ length sexes ∷ length titles ∷ length gameColours ∷ length gameResults ∷ length byeResults ∷ length fittingPairs ∷ []
-    ≡ 16 ∷ 2 ∷ 6 ∷ 3 ∷ 9 ∷ 2 ∷ 8 ∷ 4 ∷ 8 ∷ []
+-- colours, game results, bye results, a game's results as they are held, pairs that fit
+pub as-many : length textCodes ∷ length initialColours ∷ length letters ∷ length sexes ∷ length titles ∷ length gameColours ∷ length gameResults ∷ length byeResults ∷ length heldGameResults ∷ length fittingPairs ∷ []
+    ≡ 16 ∷ 2 ∷ 6 ∷ 3 ∷ 9 ∷ 2 ∷ 8 ∷ 4 ∷ 9 ∷ 9 ∷ []
 as-many = refl
 
 -- 2 for every file over 65,535 bytes, whatever is in it

@@ -102,6 +102,20 @@ setByArbiter =
     cup ++ (line "142 4" ++ (line "162  W 1.0    D 0.5    L 0.0    A 0.0    P 1.0    X 0.5" ++
     (person "   1" " 1.0" "   1" ((92, "   2 w 0     2 w =     2 b =  0000 - Z") ∷ []) ++ person "   2" " 0.0" "   2" ((92, "   1 b 0     1 b 0     1 w 0  0000 - Z") ∷ []))))
 
+-- a game of the second of three rounds is still being played, 0.7 for each of the two; one of its lines ends before its blank
+unfoldable pub beingPlayed : List ℕ
+beingPlayed =
+    cup ++ (line "142 3" ++ (line "162  X 0.7" ++
+    (person "   1" " 1.7" "   1" ((92, "   2 w 1     3 b") ∷ []) ++ (person "   2" " 0.0" "   4" ((92, "   1 b 0     4 w 0") ∷ []) ++
+    (person "   3" " 1.2" "   3" ((92, "   4 w =     1 w  ") ∷ []) ++ person "   4" " 1.5" "   2" ((92, "   3 b =     2 b 1") ∷ []))))))
+
+-- and what the writer makes of it, with CR alone
+unfoldable pub beingPlayedWritten : List ℕ
+beingPlayedWritten =
+    cup ++ (line "142 3" ++ (line "162  W 1.0    D 0.5    L 0.0    A 0.0    P 1.0    X 0.7" ++
+    (person "   1" " 1.7" "   1" ((92, "   2 w 1     3 b    0000 - Z") ∷ []) ++ (person "   2" " 0.0" "   4" ((92, "   1 b 0     4 w 0  0000 - Z") ∷ []) ++
+    (person "   3" " 1.2" "   3" ((92, "   4 w =     1 w    0000 - Z") ∷ []) ++ person "   4" " 1.5" "   2" ((92, "   3 b =     2 b 1  0000 - Z") ∷ []))))))
+
 -- refused: a wrong sum
 unfoldable pub wrongSum : List ℕ
 wrongSum = two " 0.5" "   2 w 1" " 0.0" "   1 b 0"

@@ -54,7 +54,13 @@ watchedRows =
     (refuses (cup ++ (line "142 1" ++ (person "   1" " 0.0" "   1" ((119, "Z") ∷ []) ++ person "   2" " 0.0" "   2" ((109, "Z") ∷ [])))) 11 3 3, refl) ∷
     (refuses (fullText ++ cup) 8 6 0, refl) ∷
     (refuses (two " 1.0" "   2 b 1" " 0.0" "   1 b 0") 13 2 1, refl) ∷
-    (refuses (two " 0.0" "   2 w  " " 0.0" "   1 b  ") 12 2 1, refl) ∷
+    -- unknown: one line ends before its blank; held as `?`, written as a blank, with which the line ends; X, not D; it fits no draw
+    (stores (two " 0.5" "   2 w" " 0.5" "   1 b  ") ((opponents, 0, 2) ∷ (opponents, 20, 1) ∷ (colours, 0, code "w") ∷ (colours, 20, code "b") ∷ (results, 0, code "?") ∷ (results, 20, code "?") ∷ (results, 1, 0) ∷ []), refl) ∷ (
+      writes as-left (two " 0.5" "   2 w" " 0.5" "   1 b  ")
+          ((cr-alone, 300, 0, cup ++ (line "142 1" ++ (line "162  W 1.0    D 0.5    L 0.0    A 0.0    P 1.0    X 0.5" ++ (person "   1" " 0.5" "   1" ((92, "   2 w  ") ∷ []) ++ person "   2" " 0.5" "   2" ((92, "   1 b  ") ∷ []))))) ∷ []),
+      refl,
+    ) ∷
+    (accepts (line "162  X 0.7" ++ two " 0.7" "   2 w  " " 0.7" "   1 b") 2 1 0, refl) ∷ (refuses (two " 0.5" "   2 w =" " 0.5" "   1 b  ") 14 2 1, refl) ∷
     -- set by the arbiter: lost by both; lost by the first and drawn by the other
     (accepts (two " 0.0" "   2 w 0" " 0.0" "   1 b 0") 2 1 0, refl) ∷ (accepts (two " 0.0" "   2 b 0" " 0.5" "   1 w =") 2 1 0, refl) ∷
     (stores (two " 1.0" "   2 w +" " 0.0" "   1 b -") ((results, 0, code "+") ∷ (results, 20, code "-") ∷ []), refl) ∷ (

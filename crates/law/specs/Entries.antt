@@ -9,7 +9,7 @@ use lib.ListN.{getD, take}
 use Rattle.kit.specs.Ascii.{ascii}
 use Rattle.kit.specs.Lists.{any, among, isOneOf, first, sumOf}
 use Rattle.law.specs.Scoring.{Scoring}
-use Rattle.law.specs.Players.{gameColours, gameResults, byeResults}
+use Rattle.law.specs.Players.{gameColours, byeResults, unknownResult, heldGameResults}
 use Rattle.law.specs.Tournament.{Entry, Player, Tournament}
 
 -- ---- "Places in the table count from 0", rounds from 1
@@ -29,12 +29,12 @@ entryOf r p = getD (p .entries) (r - 1) noEntry
 unfoldable pub isBye : Entry → Bool
 isBye e = eqb (e .id) 0 && eqb (e .colour) (code "-") && among (e .result) byeResults
 
--- "A game: id of another player in the file; colour `w` or `b`, small letters only; result one of 1 = 0 W D L + -"
+-- "A game: id of another player in the file; colour `w` or `b`, small letters only; result one of 1 = 0 W D L + -", or the unknown result, which `normal` fills in for a blank
 abbrev pub isAnother : Tournament → Player → ℕ → Bool
 isAnother t p id = not (eqb id (p .start)) && any (λ q. eqb (q .start) id) (t .players)
 
 unfoldable pub isGame : Tournament → Player → Entry → Bool
-isGame t p e = isAnother t p (e .id) && among (e .colour) gameColours && among (e .result) gameResults
+isGame t p e = isAnother t p (e .id) && among (e .colour) gameColours && among (e .result) heldGameResults
 
 -- ---- the player whom an entry names, if there is one, and what is asked of that player
 abbrev pub opponent : Tournament → Entry → Option Player
@@ -49,9 +49,9 @@ abbrev pub answers : Player → Entry → Entry → Bool
 answers p e theirs = eqb (theirs .id) (p .start) && not (eqb (theirs .colour) (e .colour))
 
 -- "Results that fit: 1 with 0, = with =, W with L, D with D, + with -, and - with - (nobody came)." Document 02, of results set by the
--- arbiter: "0 with 0 now fits, and = with 0 either way round."
+-- arbiter: "0 with 0 now fits, and = with 0 either way round."; and an unknown result "fits only another unknown"
 abbrev pub fittingPairs : List (List ℕ)
-fittingPairs = ascii "10" ∷ ascii "==" ∷ ascii "WL" ∷ ascii "DD" ∷ ascii "+-" ∷ ascii "--" ∷ ascii "00" ∷ ascii "=0" ∷ []
+fittingPairs = ascii "10" ∷ ascii "==" ∷ ascii "WL" ∷ ascii "DD" ∷ ascii "+-" ∷ ascii "--" ∷ ascii "00" ∷ ascii "=0" ∷ (unknownResult ∷ unknownResult ∷ []) ∷ []
 
 unfoldable pub fits : ℕ → ℕ → Bool
 fits a b = isOneOf (a ∷ b ∷ []) fittingPairs || isOneOf (b ∷ a ∷ []) fittingPairs
@@ -73,14 +73,15 @@ keeps t fitting-results place r =
 keeps t one-U place r =
     not (hasU r (playerAt t place) && any (hasU r) (take place (t .players)))
 
--- ---- "Worth: 1, W, +, F earn W; =, D, H earn D; 0, L earn L; -, Z earn A; U earns P." "No result code of this build earns X."
+-- ---- "Worth: 1, W, +, F earn W; =, D, H earn D; 0, L earn L; -, Z earn A; U earns P." An unknown result "earns X"
 unfoldable pub worth : Scoring → ℕ → ℕ
 worth s result =
     cond (among result (ascii "1W+F")) (s .win)
     (cond (among result (ascii "=DH")) (s .draw)
     (cond (among result (ascii "0L")) (s .loss)
     (cond (among result (ascii "-Z")) (s .absent)
-    (cond (among result (ascii "U")) (s .pairing) 0))))
+    (cond (among result (ascii "U")) (s .pairing)
+    (cond (eqb result unknownResult) (s .unknown) 0)))))
 
 -- "Acceleration is never part of the stated points."
 unfoldable pub earned : Scoring → List Entry → ℕ

@@ -105,6 +105,14 @@ slotColours = gameColours ++ ascii "- "
 abbrev pub slotResults : List ℕ
 slotResults = gameResults ++ (byeResults ++ ascii " ")
 
+-- document 02: "An entry with an opponent, a colour `w` or `b` and a blank result is an unknown result. [..] The tables hold `?` there"; on a line `?` is no result
+abbrev pub unknownResult : ℕ
+unknownResult = code "?"
+
+-- a game's result as the tables hold it: unknown, or one of the eight
+abbrev pub heldGameResults : List ℕ
+heldGameResults = unknownResult ∷ gameResults
+
 -- "Result letters may be small or capital."
 abbrev pub capital : ℕ → ℕ
 capital c = cond (between (code "a") (code "z") c) (c - (code "a" - code "A")) c

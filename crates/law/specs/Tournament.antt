@@ -10,10 +10,10 @@ use Rattle.types.specs.declared.Acceleration.{Acceleration}
 use Rattle.law.specs.Sizes.{mostRounds}
 use Rattle.law.specs.Columns.{blank, isBlank}
 use Rattle.law.specs.Scoring.{Scoring, scoringOf}
-use Rattle.law.specs.Players.{Slot, PlayerLine}
+use Rattle.law.specs.Players.{unknownResult, Slot, PlayerLine}
 use Rattle.law.specs.Items.{Item, passed, text, rounds, colour, scoring, acceleration, player}
 
--- a round's entry: "an entry names its opponent by start number; it has id 0 and colour `-` for a bye, and a capital result letter"
+-- a round's entry: "an entry names its opponent by start number; it has id 0 and colour `-` for a bye, and a capital result letter", or `?` where the result is unknown
 pub record Entry : Type 0 where
   pub id : ℕ
   pub colour : ℕ
@@ -35,14 +35,14 @@ pub record Tournament : Type 0 where
   pub accelerations : List Acceleration
   pub players : List Player
 
--- ---- an entry of a slot: with no opponent "colour `-` or blank", "blank is Z"; beside an opponent a blank stays what it is
+-- ---- an entry of a slot: with no opponent "colour `-` or blank", "blank is Z"; beside an opponent a blank result is the unknown one, and a blank colour stays what it is
 abbrev pub blankAs : ℕ → ℕ → ℕ
 blankAs d c = cond (isBlank c) d c
 
 unfoldable pub normal : Slot → Entry
 normal s =
     cond (eqb (s .id) 0) (record { id = 0; colour = blankAs (code "-") (s .colour); result = blankAs (code "Z") (s .result) })
-    (record { id = s .id; colour = s .colour; result = s .result })
+    (record { id = s .id; colour = s .colour; result = blankAs unknownResult (s .result) })
 
 -- ---- what each item adds
 abbrev pub textIn : Item → List (List ℕ)

@@ -13,7 +13,7 @@ use Rattle.law.specs.Columns.{Field, blank, width, column, codeField}
 use Rattle.law.specs.Heads.{roundsCode, roundsField, colourCode, colourColumn}
 use Rattle.law.specs.Scoring.{Scoring, stated, scoringCode, slotFields}
 use Rattle.law.specs.Accelerations.{accelerationCode, addedField, firstRoundField, lastRoundField, firstStartField, lastStartField, covers}
-use Rattle.law.specs.Players.{playerCode, keptField, startField, pointsField, rankField, idField, entryColourColumn, resultColumn}
+use Rattle.law.specs.Players.{playerCode, unknownResult, keptField, startField, pointsField, rankField, idField, entryColourColumn, resultColumn}
 use Rattle.law.specs.Tournament.{Entry, Player, Tournament}
 use Rattle.law.specs.Entries.{playerAt, earned}
 
@@ -77,8 +77,12 @@ accelerationLine a =
 abbrev pub idText : ℕ → ℕ → List ℕ
 idText w id = cond (eqb id 0) (noughts w) (filled blanks w id)
 
+-- of an unknown result "the writer puts a blank"
+abbrev pub resultText : ℕ → ℕ
+resultText result = cond (eqb result unknownResult) blank result
+
 abbrev pub entryPieces : ℕ → Entry → List Piece
-entryPieces r e = (idField r, idText (width (idField r)) (e .id)) ∷ (column (entryColourColumn r), e .colour ∷ []) ∷ (column (resultColumn r), e .result ∷ []) ∷ []
+entryPieces r e = (idField r, idText (width (idField r)) (e .id)) ∷ (column (entryColourColumn r), e .colour ∷ []) ∷ (column (resultColumn r), resultText (e .result) ∷ []) ∷ []
 
 -- the entries from round r on
 abbrev pub entriesFrom : ℕ → List Entry → List Piece

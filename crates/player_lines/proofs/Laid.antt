@@ -7,7 +7,7 @@ use Rattle.kit.specs.Lists.{flat}
 use Rattle.law.specs.Columns.{width, codeField}
 use Rattle.law.specs.Players.{playerCode, startField, keptField, pointsField, rankField, idColumn, idField, entryColourColumn, resultColumn}
 use Rattle.law.specs.Tournament.{Entry, Player}
-use Rattle.law.specs.Writing.{Piece, blanks, number, pointsText, idText, entriesFrom, playerLine, laid}
+use Rattle.law.specs.Writing.{Piece, blanks, number, pointsText, idText, resultText, entriesFrom, playerLine, laid}
 use Rattle.law.specs.Columns.{blank}
 use Rattle.written.proofs.Laid.{endOf}
 use Rattle.player_lines.specs.Lines.{entryText, headText, headWide}
@@ -31,7 +31,7 @@ player-line p =
 -- a round with those after it, by the blanks before its id, the id's width, the blanks before colour and result, and the column after it
 module _ (e : Entry) (ps : List Piece) where
   abbrev round : ℕ → ℕ → ℕ → ℕ → ℕ → List ℕ
-  round a w b c k = blanks a ++ (idText w (e .id) ++ (blanks b ++ (e .colour ∷ (blanks c ++ (e .result ∷ laid k ps)))))
+  round a w b c k = blanks a ++ (idText w (e .id) ++ (blanks b ++ (e .colour ∷ (blanks c ++ (resultText (e .result) ∷ laid k ps)))))
 
   round-same : {a w b c k a′ w′ b′ c′ k′ : ℕ} → a ≡ a′ → w ≡ w′ → b ≡ b′ → c ≡ c′ → k ≡ k′ → round a w b c k ≡ round a′ w′ b′ c′ k′
   round-same p q r s t = cc
@@ -43,8 +43,8 @@ entries-flat r (e ∷ es) =
     round-same e (entriesFrom (r + 1 + 1) es) {a = idColumn (r + 1) - (suc headWide + 10 * r)} {w = width (idField (r + 1))} {b = entryColourColumn (r + 1) - suc (idColumn (r + 1) + 3)} {c = resultColumn (r + 1) - suc (entryColourColumn (r + 1))} {k = suc (resultColumn (r + 1))}
     {a′ = 2} {w′ = 4} {b′ = 1} {c′ = 1} {k′ = suc headWide + 10 * (r + 1)}
     (omega arith) (omega arith) (omega arith) (omega arith) (omega arith)
-    ∙ ap (λ (l : List ℕ). blanks 2 ++ (idText 4 (e .id) ++ (blanks 1 ++ (e .colour ∷ (blanks 1 ++ (e .result ∷ l)))))) (entries-flat (r + 1) es)
-    ∙ ap (λ (l : List ℕ). blanks 2 ++ l) (sym (append-assoc (idText 4 (e .id)) (blanks 1 ++ (e .colour ∷ (blanks 1 ++ (e .result ∷ [])))) (flat entryText es)))
+    ∙ ap (λ (l : List ℕ). blanks 2 ++ (idText 4 (e .id) ++ (blanks 1 ++ (e .colour ∷ (blanks 1 ++ (resultText (e .result) ∷ l)))))) (entries-flat (r + 1) es)
+    ∙ ap (λ (l : List ℕ). blanks 2 ++ l) (sym (append-assoc (idText 4 (e .id)) (blanks 1 ++ (e .colour ∷ (blanks 1 ++ (resultText (e .result) ∷ [])))) (flat entryText es)))
 
 pub rounds-flat : (es : List Entry) → flat entryText es ≡ laid (suc headWide) (entriesFrom 1 es)
 rounds-flat es = sym (entries-flat 0 es)

@@ -1,14 +1,14 @@
 // The players' lines: 001 with its rounds, put into the lent output from a position on, which is answered moved past it. Promised: the bytes are the
 // statement's line of the player that the cells say, and every byte outside them, and the output's length, are as before. `rows` reads what is put here.
-ghost use mathlib.Core.List.{map};
+ghost use mathlib.Core.List.{[], _∷_, map};
 ghost use Prim.Native.Nat.{suc, _+_, _*_, _≤_, _<_};
 ghost use lib.ListN.{length, take, drop};
 ghost use Rattle.kit.specs.Lists.{flat};
 ghost use Rattle.law.specs.Sizes.{mostPlayers, mostRounds};
-ghost use Rattle.law.specs.Columns.{width};
+ghost use Rattle.law.specs.Columns.{blank, width};
 ghost use Rattle.law.specs.Players.{keptField, idField};
 ghost use Rattle.law.specs.Tables.{entryCells};
-ghost use Rattle.law.specs.Writing.{idText, entriesFrom, playerLine, laid};
+ghost use Rattle.law.specs.Writing.{idText, resultText, entriesFrom, playerLine, laid};
 ghost use Rattle.puts.specs.Puts.{Puts};
 ghost use Rattle.puts.specs.Ends.{endWide, endedBy};
 ghost use Rattle.player_lines.specs.Lines.{headText, headWide, entry, entryText, entryWide, playerWide};
@@ -27,6 +27,9 @@ const RANK_COLUMNS: usize = 4;
 // The blanks before a round, from the column after what stands before it.
 const BEFORE_ROUND: usize = 92 - 90;
 
+// A round's result and the blank before it, from the column after its colour.
+const RESULT_COLUMNS: usize = 100 - 98;
+
 // An opponent's start number, or zeros for a bye; `fields::number_of` reads it.
 fn put_id(out: &mut [u8], at: usize, id: StartNumber) -> usize
     requires { ⌜ at + width (idField 1) ≤ length (now out) ⌝ }
@@ -38,6 +41,17 @@ fn put_id(out: &mut [u8], at: usize, id: StartNumber) -> usize
     puts::put_number(out, at, START_COLUMNS, id.0, b' ')
 }
 
+// A round's result, with the blank before it: of an unknown one nothing but blanks.
+fn put_result(out: &mut [u8], at: usize, result: u8) -> usize
+    requires { ⌜ at + 2 ≤ length (now out) ⌝ }
+    ensures { λ r. ⌜ Puts (blank ∷ resultText result ∷ []) 2 at (now (out .entry)) (now (out .exit)) r ⌝ }
+{
+    if results::is_unknown(result) {
+        return puts::put_blanks(out, at, RESULT_COLUMNS);
+    }
+    puts::put_letter(out, at, result)
+}
+
 // One round of a 001 line; `rows::slot_of` reads it.
 fn put_entry(out: &mut [u8], at: usize, id: StartNumber, colour: u8, result: u8) -> usize
     requires { ⌜ at + entryWide ≤ length (now out) ⌝ }
@@ -46,7 +60,7 @@ fn put_entry(out: &mut [u8], at: usize, id: StartNumber, colour: u8, result: u8)
     let at = puts::put_blanks(out, at, BEFORE_ROUND);
     let at = put_id(out, at, id);
     let at = puts::put_letter(out, at, colour);
-    puts::put_letter(out, at, result)
+    put_result(out, at, result)
 }
 
 // The first rounds of the player in a place; `rows::slots_of` reads them.

@@ -1,24 +1,25 @@
-// What a result byte is: the results of games and of byes, which two are those of one game, and what each earns. docs/RESULTS.md shows the grid and the worths of this file. The tables
-// are made once and lent for all entries: a constant array that is read in a loop would be made anew at each turn. Promised: what the statement says of each byte.
+// What a result byte is: the results of games and of byes and the unknown one, which two are those of one game, and what each earns. docs/RESULTS.md shows the grid and the worths of this
+// file. The tables are made once and lent for all entries: a constant array that is read in a loop would be made anew at each turn. Promised: what the statement says of each byte.
 ghost use mathlib.Core.Path.{_≡_};
 ghost use mathlib.Core.List.{List};
 ghost use Prim.Native.Nat.{ℕ};
 ghost use Rattle.kit.specs.Lists.{among};
-ghost use Rattle.law.specs.Players.{byeResults, gameResults, slotResults};
+ghost use Rattle.law.specs.Players.{byeResults, heldGameResults};
 ghost use Rattle.law.specs.Entries as entries;
 ghost use Rattle.join.specs.Check.{worthBy};
-ghost use Rattle.results.specs.Order.{IsGrid, IsOrder, AreWorths, isAllocated};
+ghost use Rattle.results.specs.Order.{knownResults, IsGrid, IsOrder, AreWorths, isAllocated, isUnknown};
 use types::ABSENT;
 use types::DRAW;
 use types::LOSS;
 use types::PAIRING;
+use types::UNKNOWN;
 use types::VALUES;
 use types::WIN;
 
-// The order of results: the eight of games, then those of byes.
+// The order of results: the eight of games, then those of byes, then the unknown one.
 pub const GAMES: usize = 8;
 
-const RESULTS: usize = 12;
+const RESULTS: usize = 13;
 
 // A worth for each of them, and after these one for every other byte.
 pub const WORTHS: usize = RESULTS + 1;
@@ -31,6 +32,9 @@ const NOWHERE: u8 = RESULTS as u8;
 
 // What a blank result stands for where there is no opponent.
 pub const BLANK_BYE: u8 = b'Z';
+
+// And beside one: a game whose result is not known yet. A line has a blank for it and never this byte.
+pub const UNKNOWN_RESULT: u8 = b'?';
 
 // Fits or not, in one letter each, so that rows and columns stand under one another.
 const Y: bool = true;
@@ -74,6 +78,7 @@ pub fn order() -> [u8; BYTES]
     cells[b'F' as usize] = 9;
     cells[b'U' as usize] = 10;
     cells[b'Z' as usize] = 11;
+    cells[UNKNOWN_RESULT as usize] = 12;
     cells
 }
 
@@ -84,14 +89,14 @@ fn wide(x: u8) -> usize
     x as usize
 }
 
-// Whether two results are those of one game.
+// Whether two results are those of one game. An unknown one stands beside the grid: it fits only another.
 pub fn fits(grid: &[[bool; GAMES]; GAMES], order: &[u8; BYTES], a: u8, b: u8) -> bool
     requires { ⌜ IsGrid (now grid) × IsOrder (now order) ⌝ }
     ensures { λ r. ⌜ r ≡ entries.fits a b ⌝ }
 {
     let own = wide(order[a as usize]);
     if GAMES <= own {
-        return false;
+        return (a == UNKNOWN_RESULT) & (b == UNKNOWN_RESULT);
     }
     let theirs = wide(order[b as usize]);
     if GAMES <= theirs {
@@ -109,6 +114,7 @@ pub fn worths(values: [u32; VALUES]) -> [u32; WORTHS]
     let loss = values[LOSS];
     let absent = values[ABSENT];
     let pairing = values[PAIRING];
+    let unknown = values[UNKNOWN];
     [
         win, // 1
         draw, // =
@@ -122,6 +128,7 @@ pub fn worths(values: [u32; VALUES]) -> [u32; WORTHS]
         win, // F
         pairing, // U
         absent, // Z
+        unknown, // ?
         0,
     ]
 }
@@ -135,11 +142,12 @@ pub fn worth(worths: &[u32; WORTHS], order: &[u8; BYTES], result: u8) -> u32
     worths[place]
 }
 
-// The letters once more, as tests: asked where no table is lent.
-pub fn is_game_result(result: u8) -> bool
-    ensures { λ r. ⌜ r ≡ among result gameResults ⌝ }
+// The letters once more, as tests: asked where no table is lent. A game of a reading has one of the eight, or the unknown result.
+pub fn is_held_game_result(result: u8) -> bool
+    ensures { λ r. ⌜ r ≡ among result heldGameResults ⌝ }
 {
-    (result == b'1')
+    (result == UNKNOWN_RESULT)
+        | (result == b'1')
         | (result == b'=')
         | (result == b'0')
         | (result == b'W')
@@ -162,14 +170,20 @@ pub fn is_allocated(result: u8) -> bool
     result == b'U'
 }
 
-// Whether a byte may be a round's result on a 001 line, as a capital. 0 has an arm of its own: in one arm with 1 the two would be tested as a run, apart from the
-// other bytes.
-pub fn is_slot_result(c: u8) -> bool
-    ensures { λ r. ⌜ r ≡ among c slotResults ⌝ }
+pub fn is_unknown(result: u8) -> bool
+    ensures { λ r. ⌜ r ≡ isUnknown result ⌝ }
+{
+    result == UNKNOWN_RESULT
+}
+
+// Whether a byte is a result of a game or of a bye, as a capital. 0 has an arm of its own: in one arm with 1 the two would be tested as a run, apart from the other
+// bytes.
+pub fn is_result(c: u8) -> bool
+    ensures { λ r. ⌜ r ≡ among c knownResults ⌝ }
 {
     match c {
         b'0' => true,
-        b'1' | b'=' | b'W' | b'D' | b'L' | b'+' | b'-' | b'H' | b'F' | b'U' | b'Z' | b' ' => true,
+        b'1' | b'=' | b'W' | b'D' | b'L' | b'+' | b'-' | b'H' | b'F' | b'U' | b'Z' => true,
         _ => false,
     }
 }

@@ -1,6 +1,6 @@
 -- The rounds of a 001 line: a round's columns, the rounds one after the other, and the columns between them. Assumes nothing.
 use mathlib.Core.Path.{_≡_, refl, sym, ap, ap₂, subst, _∙_}
-use mathlib.Core.Bool.{Bool, true, false, _&&_, not}
+use mathlib.Core.Bool.{Bool, true, false, cond, _&&_, not}
 use mathlib.Core.Option.{Option, none, some}
 use mathlib.Core.List.{List, [], _∷_, _++_, map, map-map}
 use Prim.Native.Nat.{ℕ, zero, suc, _+_, _*_, _-_, _≤_, _<_}
@@ -9,12 +9,14 @@ use native.Mathlib.Numerals.{add-one}
 use native.Mathlib.Omega.{arith}
 use lib.ListN.{length, getD, set, replicate, length-map, length-append}
 use lib.Seq.{set-at, append-snoc}
-use borrow.Author.Tests.{ne-eqb}
+use lib.Dec.{eqb}
+use borrow.Author.Tests.{ne-eqb, not-true}
 use Rattle.kit.specs.Lists.{all, among, conj, from, flat}
 use Rattle.kit.specs.Decides.{to, when, cons, each}
+use Rattle.kit.proofs.Bools.{among-all}
 use Rattle.kit.proofs.Lists.{map-append}
 use Rattle.law.specs.Columns.{blank, isBlank, cells, col, part, column, elseBlank}
-use Rattle.law.specs.Players.{Slot, idField, entryColourColumn, resultColumn, roundFields, slotColours, slotResults, capital}
+use Rattle.law.specs.Players.{unknownResult, Slot, idField, entryColourColumn, resultColumn, roundFields, slotColours, slotResults, capital}
 use Rattle.law.specs.Tournament.{Entry, blankAs, normal}
 use Rattle.law.specs.Entries.{noEntry}
 use Rattle.law.proofs.FieldsRead as law
@@ -43,13 +45,21 @@ raw-none i x y u e = rw e refl
 raw-bye : (i x y : ℕ) (u : Bool) → i ≡ 0 → u ≡ true → normal (bye x y) ≡ rawCell (slotFrom i x y u)
 raw-bye i x y u h e = rw (h, e) refl
 
-raw-game : (i x y : ℕ) (u : Bool) → (i ≡ 0 → ⊥) → u ≡ true → record { id = i; colour = x; result = y } ≡ rawCell (slotFrom i x y u)
+raw-game : (i x y : ℕ) (u : Bool) → (i ≡ 0 → ⊥) → u ≡ true → record { id = i; colour = x; result = blankAs unknownResult y } ≡ rawCell (slotFrom i x y u)
 unfolding normal
 raw-game i x y u h e = rw (e, ne-eqb i 0 h) refl
 
-pub bye-is : (x y : ℕ) → record { id = 0; colour = blankAs (code "-") x; result = blankAs (code "Z") y } ≡ normal (bye x y)
+-- with what would be held of its result beside an opponent
+pub bye-is : (x y z : ℕ) → among y slotResults ≡ true → z ≡ blankAs unknownResult y → record { id = 0; colour = blankAs (code "-") x; result = cond (eqb z unknownResult) (code "Z") z } ≡ normal (bye x y)
 unfolding normal
-bye-is x y = refl
+bye-is x y z y-in z-is = λ i. record { id = 0; colour = blankAs (code "-") x; result = (ap (λ (c : ℕ). cond (eqb c unknownResult) (code "Z") c) z-is ∙ go (isBlank y)) i }
+  where
+    known : eqb y unknownResult ≡ false
+    known = not-true (eqb y unknownResult) (among-all (λ c. not (eqb c unknownResult)) y slotResults y-in refl)
+
+    go : (v : Bool) → cond (eqb (cond v unknownResult y) unknownResult) (code "Z") (cond v unknownResult y) ≡ cond v (code "Z") y
+    go true = refl
+    go false = rw known refl
 
 -- ---- the columns of round r
 module _ (row : List ℕ) (r : ℕ) (h : 1 ≤ r) where
@@ -134,7 +144,7 @@ module _ (row : List ℕ) (r : ℕ) (h : 1 ≤ r) (long : 89 + 10 * r ≤ length
         pub id-zero : id ≡ 0 → says (normal (bye (getD row (81 + 10 * r + 5) 0) y)) ≡ stored (slotOf row r)
         id-zero z = ap says (raw-bye id (getD row (81 + 10 * r + 5) 0) y (isUsed row r) z (used-id id e)) ∙ sym (by-id (law.value id) e)
 
-        pub id-other : (id ≡ 0 → ⊥) → says (record { id = id; colour = getD row (81 + 10 * r + 5) 0; result = y }) ≡ stored (slotOf row r)
+        pub id-other : (id ≡ 0 → ⊥) → says (record { id = id; colour = getD row (81 + 10 * r + 5) 0; result = blankAs unknownResult y }) ≡ stored (slotOf row r)
         id-other h = ap says (raw-game id (getD row (81 + 10 * r + 5) 0) y (isUsed row r) h (used-id id e)) ∙ sym (by-id (law.value id) e)
 
 -- ---- the columns between the rounds' fields

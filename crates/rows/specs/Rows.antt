@@ -6,11 +6,11 @@ use mathlib.Core.List.{List, [], _∷_, map}
 use Prim.Native.Nat.{ℕ, _+_, _*_, _≤_, _<_}
 use lib.ListN.{length, getD, replicate}
 use Rattle.kit.specs.Lists.{all, conj, among, flat}
-use Rattle.kit.specs.Decides.{when, keep}
+use Rattle.kit.specs.Decides.{to, when, keep}
 use Rattle.law.specs.Sizes.{mostRounds}
 use Rattle.law.specs.Columns.{blank, isBlank, cells, elseBlank}
 use Rattle.law.specs.Players as law
-use Rattle.law.specs.Tournament.{Entry}
+use Rattle.law.specs.Tournament.{Entry, blankAs}
 use Rattle.law.proofs.RecordsRead.{slotsOf}
 use Rattle.join.specs.Store.{rawCell, rawCells}
 use Rattle.fields.specs.Said.{Said, says, refuses, Stands}
@@ -41,13 +41,14 @@ headElseBlank line = conj (all isBlank (cells line 3 1) ∷ all isBlank (cells l
 abbrev pub roundElseBlank : List ℕ → ℕ → Bool
 roundElseBlank line at = conj (all isBlank (cells line at 2) ∷ all isBlank (cells line (at + 6) 1) ∷ all isBlank (cells line (at + 8) 1) ∷ [])
 
--- a result's letter
+-- a result
 abbrev pub letterSays : Letter → Said ℕ
 letterSays (letter.Value c) = says c
 letterSays letter.Bad = refuses 7
 
+-- as it is held beside an opponent
 abbrev pub resultIn : ℕ → Option ℕ
-resultIn code = keep (λ c. among c law.slotResults) (some (law.capital code))
+resultIn code = to (blankAs law.unknownResult) (keep (λ c. among c law.slotResults) (some (law.capital code)))
 
 -- the rounds' columns: all rounds, where the columns between them and after the last are blank
 abbrev pub roundsIn : List ℕ → Option (List law.Slot)

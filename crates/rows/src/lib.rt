@@ -3,6 +3,7 @@
 use fields::Number;
 use fields::Points;
 use results::BLANK_BYE;
+use results::UNKNOWN_RESULT;
 use types::KEPT_COLUMNS;
 use types::MOST_RANK;
 use types::MOST_ROUNDS;
@@ -10,19 +11,20 @@ use types::MOST_START;
 use types::Rank;
 use types::StartNumber;
 ghost use mathlib.Core.Path.{_≡_};
-ghost use mathlib.Core.Bool.{not, _&&_};
+ghost use mathlib.Core.Bool.{true, cond, not, _&&_};
 ghost use mathlib.Core.List.{[], _∷_, _++_};
-ghost use Prim.Native.Nat.{_+_, _-_, _≤_, _<_};
+ghost use Prim.Native.Nat.{ℕ, _+_, _-_, _≤_, _<_};
 ghost use lib.ListN.{length, replicate};
 ghost use Rattle.kit.specs.Lists.{all, among};
 ghost use Rattle.kit.specs.Decides.{to};
 ghost use Rattle.law.specs.Sizes.{mostRounds};
 ghost use Rattle.law.specs.Columns.{blank, isBlank, cells, part};
-ghost use Rattle.law.specs.Players.{slotColours, capital as capitalOf, keptField};
+ghost use Rattle.law.specs.Players.{unknownResult, slotColours, slotResults, capital as capitalOf, keptField};
 ghost use Rattle.law.specs.Tournament.{blankAs, normal};
 ghost use Rattle.law.proofs.RecordsRead.{slotOf, playerOf};
 ghost use Rattle.join.specs.Store.{rawCell};
 ghost use Rattle.fields.specs.Said.{says, orBadField};
+ghost use Rattle.results.specs.Order.{isUnknown};
 ghost use Rattle.rows.specs.Rows.{roundsEnd, playerColumns, Reaches, roundsIn, headElseBlank, roundElseBlank, letterSays, resultIn, slotSays, bye, noSlots, SlotsSay, noRow, RowSays};
 
 // The columns up to the last round's result.
@@ -81,15 +83,18 @@ fn is_slot_colour(c: u8) -> bool
     }
 }
 
-// The result of a round. Most stand as capitals or signs, so that this is asked first.
+// The result of a round as it is held beside an opponent: a blank is the unknown one. Most stand as capitals or signs, so that this is asked first.
 fn result_of(code: u8) -> Letter
     ensures { λ r. ⌜ letterSays r ≡ orBadField (resultIn code) ⌝ }
 {
-    if results::is_slot_result(code) {
+    if results::is_result(code) {
         return Letter::Value(code);
     }
+    if code == b' ' {
+        return Letter::Value(UNKNOWN_RESULT);
+    }
     let result = capital(code);
-    if !results::is_slot_result(result) {
+    if !results::is_result(result) {
         return Letter::Bad;
     }
     Letter::Value(result)
@@ -102,7 +107,7 @@ fn is_used(colour: u8, code: u8) -> bool
     !((colour == b' ') & (code == b' '))
 }
 
-// A letter of a round without an opponent: other stands for a blank one.
+// A letter: other stands for a blank one.
 fn blank_as(other: u8, letter: u8) -> u8
     ensures { λ r. ⌜ r ≡ blankAs other letter ⌝ }
 {
@@ -112,11 +117,21 @@ fn blank_as(other: u8, letter: u8) -> u8
     letter
 }
 
-// A round without an opponent, of which a byte is not blank.
-fn bye_of(colour: u8, result: u8) -> Slot
-    ensures { λ r. ⌜ slotSays r ≡ says (normal (bye colour result)) ⌝ }
+// A result: other stands for an unknown one.
+fn unknown_as(other: u8, result: u8) -> u8
+    ensures { λ r. ⌜ r ≡ cond (isUnknown result) other result ⌝ }
 {
-    Slot::Read(0, blank_as(b'-', colour), blank_as(BLANK_BYE, result))
+    if results::is_unknown(result) {
+        return other;
+    }
+    result
+}
+
+// A round without an opponent, of which a byte is not blank. result: what would be held beside one.
+fn bye_of(colour: u8, result: u8) -> Slot
+    ensures { λ r. ⌜ ((letter : ℕ) → among letter slotResults ≡ true → result ≡ blankAs unknownResult letter → slotSays r ≡ says (normal (bye colour letter))) ⌝ }
+{
+    Slot::Read(0, blank_as(b'-', colour), unknown_as(BLANK_BYE, result))
 }
 
 fn slot_of(line: &[u8], round: usize) -> Slot

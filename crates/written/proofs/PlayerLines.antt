@@ -8,22 +8,23 @@ use Prim.Native.Char.{code}
 use native.Mathlib.Nat.{zero-add}
 use native.Mathlib.Omega.{arith}
 use lib.Dec.{eqb}
-use lib.ListN.{length, take, replicate}
+use lib.ListN.{length, getD, take, replicate}
 use borrow.Author.Tests.{eqb-true, not-true}
 use Rattle.kit.specs.Lists.{all, any, among, from, flat, Each}
 use Rattle.kit.specs.First.{AllOf}
-use Rattle.kit.proofs.Bools.{clash, and, both, within, among-all}
+use Rattle.kit.proofs.Bools.{and, both, within, among-all}
+use Rattle.kit.proofs.Firsts.{any-of}
 use Rattle.kit.proofs.Lists.{flat-append}
 use Rattle.law.specs.Sizes.{mostRounds, mostStart, mostRank}
 use Rattle.law.specs.Lines.{allowed}
 use Rattle.law.specs.Columns.{Field, blank, isBlank, cells, col, part, width, column, elseBlank, afterCode, codeField}
 use Rattle.law.specs.Fields.{SpellsNumber, SpellsPoints, SpellsNumberOrBlank}
-use Rattle.law.specs.Players.{playerCode, keptField, Slot, idColumn, idField, entryColourColumn, resultColumn, roundFields, gameColours, gameResults, byeResults, slotColours, slotResults, capital, SpellsSlot, PlayerLine, startField, pointsField, rankField, everyRound, playerFields}
+use Rattle.law.specs.Players.{playerCode, keptField, Slot, idColumn, idField, entryColourColumn, resultColumn, roundFields, gameColours, byeResults, unknownResult, heldGameResults, slotColours, slotResults, capital, SpellsSlot, PlayerLine, startField, pointsField, rankField, everyRound, playerFields}
 use Rattle.law.specs.Items.{player, kindOf, 001-record, SpellsItem}
-use Rattle.law.specs.Tournament.{Entry, Player, Tournament, normal, noSlot, playerOf}
-use Rattle.law.specs.Entries.{isBye, isAnother, isGame}
+use Rattle.law.specs.Tournament.{Entry, Player, Tournament, blankAs, normal, noSlot, playerOf}
+use Rattle.law.specs.Entries.{noEntry, isBye, isAnother, isGame}
 use Rattle.law.specs.Lawful.{LawfulPlayer}
-use Rattle.law.specs.Writing.{Piece, blanks, filled, noughts, number, pointsText, idText, entriesFrom, playerLine}
+use Rattle.law.specs.Writing.{Piece, blanks, filled, noughts, number, pointsText, idText, resultText, entriesFrom, playerLine}
 use Rattle.law.proofs.FieldsRead.{blanks-all}
 use Rattle.law.proofs.ColumnLaws.{one-width, column-cell}
 use Rattle.written.proofs.Laid.{Ordered, endOf, fieldsOf, cells-past, Stands, pieces-stand, laid-else, laid-long, Rising, else-past, laid-all}
@@ -34,28 +35,31 @@ pub record GoodEntry (e : Entry) : Type 0 where
   pub id-small : e .id ≤ mostStart
   pub colour-in : among (e .colour) slotColours ≡ true
   pub colour-there : isBlank (e .colour) ≡ false
-  pub result-in : among (e .result) slotResults ≡ true
+  pub result-in : among (resultText (e .result)) slotResults ≡ true
   pub result-there : isBlank (e .result) ≡ false
-  pub capital-is : capital (e .result) ≡ e .result
+  pub bye-known : e .id ≡ 0 → eqb (e .result) unknownResult ≡ false
+  pub capital-is : capital (resultText (e .result)) ≡ resultText (e .result)
   pub colour-clean : allowed (e .colour) ≡ true
-  pub result-clean : allowed (e .result) ≡ true
+  pub result-clean : allowed (resultText (e .result)) ≡ true
 
 -- what holds of each of these bytes holds of one of them
 module _ (e : Entry) (colours results : List ℕ) (c : among (e .colour) colours ≡ true) (r : among (e .result) results ≡ true) where
-  good : e .id ≤ mostStart
+  good : e .id ≤ mostStart → (e .id ≡ 0 → eqb (e .result) unknownResult ≡ false)
       → all (λ x. among x slotColours) colours ≡ true → all (λ x. not (isBlank x)) colours ≡ true → all allowed colours ≡ true
-      → all (λ x. among x slotResults) results ≡ true → all (λ x. not (isBlank x)) results ≡ true → all (λ x. eqb (capital x) x) results ≡ true → all allowed results ≡ true
+      → all (λ x. among (resultText x) slotResults) results ≡ true → all (λ x. not (isBlank x)) results ≡ true → all (λ x. eqb (capital (resultText x)) (resultText x)) results ≡ true
+      → all (λ x. allowed (resultText x)) results ≡ true
       → GoodEntry e
-  good l c1 c2 c3 r1 r2 r3 r4 =
+  good l known c1 c2 c3 r1 r2 r3 r4 =
       record {
         id-small = l;
         colour-in = among-all (λ x. among x slotColours) (e .colour) colours c c1;
         colour-there = not-true (isBlank (e .colour)) (among-all (λ x. not (isBlank x)) (e .colour) colours c c2);
-        result-in = among-all (λ x. among x slotResults) (e .result) results r r1;
+        result-in = among-all (λ x. among (resultText x) slotResults) (e .result) results r r1;
         result-there = not-true (isBlank (e .result)) (among-all (λ x. not (isBlank x)) (e .result) results r r2);
-        capital-is = eqb-true (capital (e .result)) (e .result) (among-all (λ x. eqb (capital x) x) (e .result) results r r3);
+        bye-known = known;
+        capital-is = eqb-true (capital (resultText (e .result))) (resultText (e .result)) (among-all (λ x. eqb (capital (resultText x)) (resultText x)) (e .result) results r r3);
         colour-clean = among-all allowed (e .colour) colours c c3;
-        result-clean = among-all allowed (e .result) results r r4;
+        result-clean = among-all (λ x. allowed (resultText x)) (e .result) results r r4;
       }
 
 bye-good : (e : Entry) → isBye e ≡ true → GoodEntry e
@@ -64,26 +68,23 @@ bye-good e h =
     let a = and (eqb (e .id) 0 && eqb (e .colour) (code "-")) (among (e .result) byeResults) h in
     let b = and (eqb (e .id) 0) (eqb (e .colour) (code "-")) (a .0) in
     let i = eqb-true (e .id) 0 (b .0) in
-    good e (code "-" ∷ []) byeResults (rw (b .1) refl) (a .1) (omega arith) refl refl refl refl refl refl refl
+    good e (code "-" ∷ []) byeResults (rw (b .1) refl) (a .1) (omega arith) (λ _. not-true (eqb (e .result) unknownResult) (among-all (λ x. not (eqb x unknownResult)) (e .result) byeResults (a .1) refl)) refl refl refl refl refl refl refl
 
 -- an id of a player is a start number
-another-small : (t : Tournament) (p : Player) (id : ℕ) → AllOf (LawfulPlayer (t .rounds)) (t .players) → isAnother t p id ≡ true → id ≤ mostStart
-another-small t p id k h = go (t .players) k (and (not (eqb id (p .start))) (any (λ q. eqb (q .start) id) (t .players)) h .1)
-  where
-    go : (ps : List Player) → AllOf (LawfulPlayer (t .rounds)) ps → any (λ q. eqb (q .start) id) ps ≡ true → id ≤ mostStart
-    go [] k e = clash e
-    go (q ∷ ps) k e = at (eqb (q .start) id) refl e (go ps (k .1))
-      where
-        at : (b : Bool) → eqb (q .start) id ≡ b → b || any (λ q. eqb (q .start) id) ps ≡ true → (any (λ q. eqb (q .start) id) ps ≡ true → id ≤ mostStart) → id ≤ mostStart
-        at true u e ih = let v = eqb-true (q .start) id u in let w = within 1 mostStart (q .start) (k .0 .start) .1 in omega arith
-        at false u e ih = ih e
+another-start : (t : Tournament) (p : Player) (id : ℕ) → AllOf (LawfulPlayer (t .rounds)) (t .players) → isAnother t p id ≡ true → (1 ≤ id) × (id ≤ mostStart)
+another-start t p id k h =
+    let q = any-of (LawfulPlayer (t .rounds)) (λ q. eqb (q .start) id) (t .players) k (and (not (eqb id (p .start))) (any (λ q. eqb (q .start) id) (t .players)) h .1) in
+    let v = eqb-true (q .0 .start) id (q .1) in
+    let w = within 1 mostStart (q .0 .start) (q .2 .start) in
+    (omega arith, omega arith)
 
 game-good : (t : Tournament) (p : Player) (e : Entry) → AllOf (LawfulPlayer (t .rounds)) (t .players) → isGame t p e ≡ true → GoodEntry e
 unfolding isGame
 game-good t p e k h =
-    let a = and (isAnother t p (e .id) && among (e .colour) gameColours) (among (e .result) gameResults) h in
+    let a = and (isAnother t p (e .id) && among (e .colour) gameColours) (among (e .result) heldGameResults) h in
     let b = and (isAnother t p (e .id)) (among (e .colour) gameColours) (a .0) in
-    good e gameColours gameResults (b .1) (a .1) (another-small t p (e .id) k (b .0)) refl refl refl refl refl refl refl
+    let l = another-start t p (e .id) k (b .0) in
+    good e gameColours heldGameResults (b .1) (a .1) (l .1) (λ z. absurd (omega arith)) refl refl refl refl refl refl refl
 
 pub entry-good : (t : Tournament) (p : Player) (e : Entry) → AllOf (LawfulPlayer (t .rounds)) (t .players) → isBye e || isGame t p e ≡ true → GoodEntry e
 entry-good t p e k h = go (isBye e) refl h
@@ -94,16 +95,25 @@ entry-good t p e k h = go (isBye e) refl h
 
 -- ---- the slot that it is written as, and that this says the entry again
 abbrev pub slotFor : Entry → Slot
-slotFor e = record { id = e .id; colour = e .colour; result = e .result; used = true }
+slotFor e = record { id = e .id; colour = e .colour; result = resultText (e .result); used = true }
 
 pub normal-again : (e : Entry) → GoodEntry e → normal (slotFor e) ≡ e
 unfolding normal
 normal-again e g = go (eqb (e .id) 0) refl
   where
+    known : (d : ℕ) → eqb (e .result) unknownResult ≡ false → blankAs d (resultText (e .result)) ≡ e .result
+    known d u = rw (u, g .result-there)
+
+    unknown : (v : Bool) → eqb (e .result) unknownResult ≡ v → blankAs unknownResult (resultText (e .result)) ≡ e .result
+    unknown true u = rw u (sym (eqb-true (e .result) unknownResult u))
+    unknown false u = known unknownResult u
+
     go : (b : Bool) → eqb (e .id) 0 ≡ b
-        → cond b (record { id = 0; colour = cond (isBlank (e .colour)) (code "-") (e .colour); result = cond (isBlank (e .result)) (code "Z") (e .result) }) (record { id = e .id; colour = e .colour; result = e .result }) ≡ e
-    go true u = rw (g .colour-there, g .result-there) (λ i. record { id = sym (eqb-true (e .id) 0 u) i; colour = e .colour; result = e .result })
-    go false u = refl
+        → cond b (record { id = 0; colour = blankAs (code "-") (e .colour); result = blankAs (code "Z") (resultText (e .result)) }) (record { id = e .id; colour = e .colour; result = blankAs unknownResult (resultText (e .result)) }) ≡ e
+    go true u =
+        let z = eqb-true (e .id) 0 u in
+        rw (g .colour-there) (λ i. record { id = sym z i; colour = e .colour; result = known (code "Z") (g .bye-known z) i })
+    go false u = λ i. record { id = e .id; colour = e .colour; result = unknown (eqb (e .result) unknownResult) refl i }
 
 -- ---- one column
 column-is : (row : List ℕ) (c x : ℕ) → part (column c) row ≡ x ∷ [] → col row c ≡ x
@@ -137,11 +147,11 @@ id-text-allowed id l = go (eqb id 0)
     go true = refl
     go false = filled-allowed blanks (replicate-allowed blank refl) 3 id (omega arith)
 
-slot-spelled : (row : List ℕ) (r : ℕ) (e : Entry) → GoodEntry e → part (idField r) row ≡ idText (width (idField r)) (e .id) → part (column (entryColourColumn r)) row ≡ e .colour ∷ [] → part (column (resultColumn r)) row ≡ e .result ∷ []
+slot-spelled : (row : List ℕ) (r : ℕ) (e : Entry) → GoodEntry e → part (idField r) row ≡ idText (width (idField r)) (e .id) → part (column (entryColourColumn r)) row ≡ e .colour ∷ [] → part (column (resultColumn r)) row ≡ resultText (e .result) ∷ []
     → SpellsSlot row r (slotFor e)
 slot-spelled row r e g i c s =
     let colour-is = column-is row (entryColourColumn r) (e .colour) c in
-    let result-is = column-is row (resultColumn r) (e .result) s in
+    let result-is = column-is row (resultColumn r) (resultText (e .result)) s in
     record {
       id = subst (λ (l : List ℕ). SpellsNumberOrBlank l (e .id)) (sym (i ∙ ap (λ (w : ℕ). idText w (e .id)) (id-width r))) (id-text (e .id) (g .id-small));
       colour = sym colour-is;
@@ -158,6 +168,16 @@ slot-spelled row r e g i c s =
 pub entries-spelled : (row : List ℕ) (r : ℕ) (es : List Entry) → AllOf GoodEntry es → AllOf (Stands row) (entriesFrom r es) → Each (SpellsSlot row) (from r (length es)) (map slotFor es)
 entries-spelled row r [] g h = tt
 entries-spelled row r (e ∷ es) g h = (slot-spelled row r e (g .0) (h .0) (h .1 .0) (h .1 .1 .0), entries-spelled row (r + 1) es (g .1) (h .1 .1 .1))
+
+-- the letter that stands for a result
+entries-result : (row : List ℕ) (r : ℕ) (es : List Entry) → AllOf (Stands row) (entriesFrom r es) → (i : ℕ) → i < length es → col row (resultColumn (r + i)) ≡ resultText (getD es i noEntry .result)
+entries-result row r [] h i l = absurd (omega arith)
+entries-result row r (e ∷ es) h zero l =
+    let here : r + 0 ≡ r = omega arith in
+    ap (λ (k : ℕ). col row (resultColumn k)) here ∙ column-is row (resultColumn r) (resultText (e .result)) (h .1 .1 .0)
+entries-result row r (e ∷ es) h (suc i) l =
+    let next : r + suc i ≡ r + 1 + i = omega arith in
+    ap (λ (k : ℕ). col row (resultColumn k)) next ∙ entries-result row (r + 1) es (h .1 .1 .1) i (omega arith)
 
 -- ---- a round past the end of the line
 past-slot : (row : List ℕ) (r : ℕ) → length row < idColumn r → SpellsSlot row r noSlot
@@ -271,6 +291,11 @@ module _ (R : ℕ) (p : Player) (k : LawfulPlayer R p) (small : R ≤ mostRounds
       let e = entries-end 1 (p .entries) (omega arith) in
       let n = k .entries in
       omega arith
+
+  pub player-result : (i : ℕ) → i < R → col (playerLine p) (resultColumn (1 + i)) ≡ resultText (getD (p .entries) i noEntry .result)
+  player-result i l =
+      let n = k .entries in
+      entries-result (playerLine p) 1 (p .entries) (pieces-stand playerCode afterCode (pieces001 p) refl ordered .1 .1 .1 .1) i (omega arith)
 
   kind : kindOf (playerLine p) ≡ 001-record
   unfolding kindOf cells

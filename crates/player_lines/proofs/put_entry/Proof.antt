@@ -19,8 +19,8 @@ put-letter-requires c κs =
     let r1 = room-left (p1 .put-blanks .ensures) 8 (p1 .before .before .before .pre) in
     room-next (p2 .put-id .ensures) 2 2 r1
 
-put-letter-requires-2 : tie.Need-put-letter-requires-2
-put-letter-requires-2 c κs =
+put-result-requires : tie.Need-put-result-requires
+put-result-requires c κs =
     let p3 = c .before .before .before in
     let p2 = p3 .before .before .before .before in
     let p1 = p2 .before .before .before .before in
@@ -34,7 +34,7 @@ returns c =
     let p3 = p4 .before .before .before .before in
     let p2 = p3 .before .before .before .before in
     let p1 = p2 .before .before .before .before in
-    puts-then (p1 .put-blanks .ensures) (puts-then (p2 .put-id .ensures) (puts-then (p3 .put-letter .ensures) (p4 .put-letter2 .ensures)))
+    puts-then (p1 .put-blanks .ensures) (puts-then (p2 .put-id .ensures) (puts-then (p3 .put-letter .ensures) (p4 .put-result .ensures)))
 
 same-length : tie.Need-same-length
 same-length c = returns c .long
@@ -46,6 +46,6 @@ put-entry-spec =
     put-blanks-requires
     put-id-requires
     put-letter-requires
-    put-letter-requires-2
+    put-result-requires
     same-length
     returns)

@@ -27,8 +27,9 @@ wide-requires-2 c κs = search needs
 returns-2 : tie.Need-returns-2
 returns-2 c =
     let start : tie.Start = c .before .before .before .before .before .before in
+    let own = c .before .before .before .before .wide .ensures ∙ start .pre .1 .each (start .args .a) (search needs) in
     let theirs = c .before .wide2 .ensures ∙ start .pre .1 .each (start .args .b) (search needs) in
-    theirs-unlisted _ _ (omega (arith, c .if2 .taken, theirs))
+    theirs-unlisted _ _ (omega (arith, c .before .before .before .if1 .left, own)) (omega (arith, c .if2 .taken, theirs))
 
 mul-result : tie.Need-mul-result
 mul-result c = search needs

@@ -77,6 +77,12 @@ cast-cells-12 c = search needs
 array-write-cells-12 : tie.Need-array-write-cells-12
 array-write-cells-12 c = search needs
 
+cast-cells-13 : tie.Need-cast-cells-13
+cast-cells-13 c = search needs
+
+array-write-cells-13 : tie.Need-array-write-cells-13
+array-write-cells-13 c = search needs
+
 returns : tie.Need-returns
 unfolding resultPlace
 returns c = is-order
@@ -109,4 +115,6 @@ order-spec =
     array-write-cells-11
     cast-cells-12
     array-write-cells-12
+    cast-cells-13
+    array-write-cells-13
     returns)

@@ -22,6 +22,9 @@ array-read-absent c = search needs
 array-read-pairing : tie.Need-array-read-pairing
 array-read-pairing c = search needs
 
+array-read-unknown : tie.Need-array-read-unknown
+array-read-unknown c = search needs
+
 returns : tie.Need-returns
 unfolding worthBy resultPlace
 returns c = are-worths _ _ refl
@@ -35,4 +38,5 @@ worths-spec =
     array-read-loss
     array-read-absent
     array-read-pairing
+    array-read-unknown
     returns)

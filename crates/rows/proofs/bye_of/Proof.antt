@@ -9,13 +9,14 @@ use Rattle.rows.proofs.bye_of.Tie as tie
 blank-as-requires : tie.Need-blank-as-requires
 blank-as-requires c κs = tt
 
-blank-as-requires-2 : tie.Need-blank-as-requires-2
-blank-as-requires-2 c κs = tt
+unknown-as-requires : tie.Need-unknown-as-requires
+unknown-as-requires c κs = tt
 
 returns : tie.Need-returns
 returns c =
-    ap₂ (λ (x y : ℕ). says (record { id = 0; colour = x; result = y })) (c .before .blank-as .ensures) (c .blank-as2 .ensures)
-    ∙ ap says (bye-is (c .before .before .args .colour) (c .before .before .args .result))
+    λ letter letter-in result-is.
+    ap₂ (λ (x y : ℕ). says (record { id = 0; colour = x; result = y })) (c .before .blank-as .ensures) (c .unknown-as .ensures)
+    ∙ ap says (bye-is (c .before .before .args .colour) letter (c .before .before .args .result) letter-in result-is)
 
 pub bye-of-spec : {M : Type 1} → statement M
-bye-of-spec = tie.close (tie.spec blank-as-requires blank-as-requires-2 returns)
+bye-of-spec = tie.close (tie.spec blank-as-requires unknown-as-requires returns)

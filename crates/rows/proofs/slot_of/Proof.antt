@@ -86,10 +86,10 @@ returns-3 : tie.Need-returns-3
 returns-3 c =
     let q = c .before .before in
     let p = q .before .before .before .before .before .before .before .before .before .before .before .before .before .before in
-    let y = q .before .before .before .before .before .before .result .given .0 .0 in
-    let l = letter-said (codeAt (p .args .line .now) (p .args .round)) y (sym (q .before .before .before .before .before .before .before .before .result-of .ensures) ∙ ap letterSays (q .before .before .before .before .before .before .result .given .1)) in
+    let y = capital (codeAt (p .args .line .now) (p .args .round)) in
+    let l = letter-said (codeAt (p .args .line .now) (p .args .round)) (q .before .before .before .before .before .before .result .given .0 .0) (sym (q .before .before .before .before .before .before .before .before .result-of .ensures) ∙ ap letterSays (q .before .before .before .before .before .before .result .given .1)) in
     let n-is = is-bad (numberOf (idBytes (p .args .line .now) (p .args .round))) (q .number-of .result) (q .number-of .ensures) (c .before .match2 .keys2) (c .match3 .keys2) in
-    id-bad (p .args .line .now) (p .args .round) (p .pre .0) (p .pre .2) y (l .0) (sym (q .before .before .before .before .before .before .before .before .before .before .before .is-slot-colour .ensures) ∙ not-false _ (q .before .before .before .before .before .before .before .before .before .before .if1 .left)) (l .1) n-is
+    id-bad (p .args .line .now) (p .args .round) (p .pre .0) (p .pre .2) y refl (sym (q .before .before .before .before .before .before .before .before .before .before .before .is-slot-colour .ensures) ∙ not-false _ (q .before .before .before .before .before .before .before .before .before .before .if1 .left)) (l .1) n-is
 
 is-used-requires : tie.Need-is-used-requires
 is-used-requires c κs = tt
@@ -98,10 +98,10 @@ returns-4 : tie.Need-returns-4
 returns-4 c =
     let q = c .before .before .before .before .before in
     let p = q .before .before .before .before .before .before .before .before .before .before .before .before .before .before in
-    let y = q .before .before .before .before .before .before .result .given .0 .0 in
-    let l = letter-said (codeAt (p .args .line .now) (p .args .round)) y (sym (q .before .before .before .before .before .before .before .before .result-of .ensures) ∙ ap letterSays (q .before .before .before .before .before .before .result .given .1)) in
+    let y = capital (codeAt (p .args .line .now) (p .args .round)) in
+    let l = letter-said (codeAt (p .args .line .now) (p .args .round)) (q .before .before .before .before .before .before .result .given .0 .0) (sym (q .before .before .before .before .before .before .before .before .result-of .ensures) ∙ ap letterSays (q .before .before .before .before .before .before .result .given .1)) in
     let n-is = is-blank (numberOf (idBytes (p .args .line .now) (p .args .round))) (sym (q .number-of .ensures) ∙ ap numberSays (c .before .before .enum-told2 .given .1)) in
-    wholly-blank (p .args .line .now) (p .args .round) (p .pre .0) (p .pre .2) y (l .0) (sym (q .before .before .before .before .before .before .before .before .before .before .before .is-slot-colour .ensures) ∙ not-false _ (q .before .before .before .before .before .before .before .before .before .before .if1 .left)) (l .1) n-is (c .before .is-used .result) (c .before .is-used .ensures) (not-true _ (c .if2 .taken))
+    wholly-blank (p .args .line .now) (p .args .round) (p .pre .0) (p .pre .2) y refl (sym (q .before .before .before .before .before .before .before .before .before .before .before .is-slot-colour .ensures) ∙ not-false _ (q .before .before .before .before .before .before .before .before .before .before .if1 .left)) (l .1) n-is (c .before .is-used .result) (c .before .is-used .ensures) (not-true _ (c .if2 .taken))
 
 bye-of-requires : tie.Need-bye-of-requires
 bye-of-requires c κs = tt
@@ -110,10 +110,10 @@ returns-5 : tie.Need-returns-5
 returns-5 c =
     let q = c .before .before .before .before .before .before in
     let p = q .before .before .before .before .before .before .before .before .before .before .before .before .before .before in
-    let y = q .before .before .before .before .before .before .result .given .0 .0 in
-    let l = letter-said (codeAt (p .args .line .now) (p .args .round)) y (sym (q .before .before .before .before .before .before .before .before .result-of .ensures) ∙ ap letterSays (q .before .before .before .before .before .before .result .given .1)) in
+    let y = capital (codeAt (p .args .line .now) (p .args .round)) in
+    let l = letter-said (codeAt (p .args .line .now) (p .args .round)) (q .before .before .before .before .before .before .result .given .0 .0) (sym (q .before .before .before .before .before .before .before .before .result-of .ensures) ∙ ap letterSays (q .before .before .before .before .before .before .result .given .1)) in
     let n-is = is-blank (numberOf (idBytes (p .args .line .now) (p .args .round))) (sym (q .number-of .ensures) ∙ ap numberSays (c .before .before .before .enum-told2 .given .1)) in
-    c .bye-of .ensures ∙ id-blank (p .args .line .now) (p .args .round) (p .pre .0) (p .pre .2) y (l .0) (sym (q .before .before .before .before .before .before .before .before .before .before .before .is-slot-colour .ensures) ∙ not-false _ (q .before .before .before .before .before .before .before .before .before .before .if1 .left)) (l .1) n-is (c .before .before .is-used .result) (c .before .before .is-used .ensures) (not-false _ (c .before .if2 .left))
+    c .bye-of .ensures y (l .1) (l .0) ∙ id-blank (p .args .line .now) (p .args .round) (p .pre .0) (p .pre .2) y refl (sym (q .before .before .before .before .before .before .before .before .before .before .before .is-slot-colour .ensures) ∙ not-false _ (q .before .before .before .before .before .before .before .before .before .before .if1 .left)) (l .1) n-is (c .before .before .is-used .result) (c .before .before .is-used .ensures) (not-false _ (c .before .if2 .left))
 
 bye-of-requires-2 : tie.Need-bye-of-requires-2
 bye-of-requires-2 c κs = tt
@@ -122,19 +122,19 @@ returns-6 : tie.Need-returns-6
 returns-6 c =
     let q = c .before .before .before .before .before in
     let p = q .before .before .before .before .before .before .before .before .before .before .before .before .before .before in
-    let y = q .before .before .before .before .before .before .result .given .0 .0 in
-    let l = letter-said (codeAt (p .args .line .now) (p .args .round)) y (sym (q .before .before .before .before .before .before .before .before .result-of .ensures) ∙ ap letterSays (q .before .before .before .before .before .before .result .given .1)) in
+    let y = capital (codeAt (p .args .line .now) (p .args .round)) in
+    let l = letter-said (codeAt (p .args .line .now) (p .args .round)) (q .before .before .before .before .before .before .result .given .0 .0) (sym (q .before .before .before .before .before .before .before .before .result-of .ensures) ∙ ap letterSays (q .before .before .before .before .before .before .result .given .1)) in
     let n-is = is-value (numberOf (idBytes (p .args .line .now) (p .args .round))) (c .before .before .before .n .given .0 .0) (sym (q .number-of .ensures) ∙ ap numberSays (c .before .before .before .n .given .1)) in
-    c .bye-of2 .ensures ∙ id-zero (p .args .line .now) (p .args .round) (p .pre .0) (p .pre .2) y (l .0) (sym (q .before .before .before .before .before .before .before .before .before .before .before .is-slot-colour .ensures) ∙ not-false _ (q .before .before .before .before .before .before .before .before .before .before .if1 .left)) (l .1) (c .before .before .before .n .given .0 .0) n-is (c .before .if3 .taken)
+    c .bye-of2 .ensures y (l .1) (l .0) ∙ id-zero (p .args .line .now) (p .args .round) (p .pre .0) (p .pre .2) y refl (sym (q .before .before .before .before .before .before .before .before .before .before .before .is-slot-colour .ensures) ∙ not-false _ (q .before .before .before .before .before .before .before .before .before .before .if1 .left)) (l .1) (c .before .before .before .n .given .0 .0) n-is (c .before .if3 .taken)
 
 returns-7 : tie.Need-returns-7
 returns-7 c =
     let q = c .before .before .before .before in
     let p = q .before .before .before .before .before .before .before .before .before .before .before .before .before .before in
-    let y = q .before .before .before .before .before .before .result .given .0 .0 in
-    let l = letter-said (codeAt (p .args .line .now) (p .args .round)) y (sym (q .before .before .before .before .before .before .before .before .result-of .ensures) ∙ ap letterSays (q .before .before .before .before .before .before .result .given .1)) in
+    let y = capital (codeAt (p .args .line .now) (p .args .round)) in
+    let l = letter-said (codeAt (p .args .line .now) (p .args .round)) (q .before .before .before .before .before .before .result .given .0 .0) (sym (q .before .before .before .before .before .before .before .before .result-of .ensures) ∙ ap letterSays (q .before .before .before .before .before .before .result .given .1)) in
     let n-is = is-value (numberOf (idBytes (p .args .line .now) (p .args .round))) (c .before .before .n .given .0 .0) (sym (q .number-of .ensures) ∙ ap numberSays (c .before .before .n .given .1)) in
-    id-other (p .args .line .now) (p .args .round) (p .pre .0) (p .pre .2) y (l .0) (sym (q .before .before .before .before .before .before .before .before .before .before .before .is-slot-colour .ensures) ∙ not-false _ (q .before .before .before .before .before .before .before .before .before .before .if1 .left)) (l .1) (c .before .before .n .given .0 .0) n-is (c .if3 .left)
+    rw (l .0) (id-other (p .args .line .now) (p .args .round) (p .pre .0) (p .pre .2) y refl (sym (q .before .before .before .before .before .before .before .before .before .before .before .is-slot-colour .ensures) ∙ not-false _ (q .before .before .before .before .before .before .before .before .before .before .if1 .left)) (l .1) (c .before .before .n .given .0 .0) n-is (c .if3 .left))
 
 pub slot-of-spec : {M : Type 1} → statement M
 slot-of-spec =
