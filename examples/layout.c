@@ -1,7 +1,7 @@
 /* The structs of the header against what the library fills in, its words, and the line ends. Sizes, offsets and lengths stand here as numbers. A report in
    which every part of an answer has a value of its own is read, asked and written; each part must then be found at its offset in the bytes that the library
    left, and by its name in the struct. Nothing is asked of the bytes between the parts. What is written must have the line ends that the call names, in exactly
-   its room and in no less; so must the longest report. */
+   its room and in no less; so must the longest report. An unknown result is held as the header says, and written as a blank. */
 #include "report.h"
 
 #include <stddef.h>
@@ -241,6 +241,24 @@ static void accepted(int pattern)
     other_numbers(answer);
 }
 
+/* A game that is still being played: TRF_UNKNOWN_RESULT in both cells, a blank at the end of both lines. The report is written as it was read. */
+static void unknown(void)
+{
+    static const char played[] =
+        "012 Cup\r"
+        "142 1\r"
+        "162  W 1.0    D 0.5    L 0.0    A 0.0    P 1.0    X 0.7\r"
+        "001    1      Roe                                                                0.7    1     2 w  \r"
+        "001    2      Poe                                                                0.7    2     1 b  \r";
+    trf_answer answer = trf_read((const uint8_t *)played, sizeof played - 1, TRF_LENT(tables), tables.lines, TRF_LINE_CELLS);
+    same("the answer to a report of an event that is being played", answer.number, TRF_ACCEPTED);
+    same("an unknown result of White", tables.results[0], TRF_UNKNOWN_RESULT);
+    same("an unknown result of Black", tables.results[20], TRF_UNKNOWN_RESULT);
+    memset(out, 0, sizeof out);
+    same("the length of such a report", trf_write(answer, TRF_LENT(tables), TRF_CR, out, sizeof out).length, sizeof played - 1);
+    same("such a report, written in the spelling in which it was read", (uint64_t)memcmp(out, played, sizeof played - 1), 0);
+}
+
 /* Every table full, in as many lines as can be: byes in all rounds, and records of one start number each. */
 static trf_answer fill_tables(void)
 {
@@ -306,7 +324,7 @@ static void words(void)
             parts[at] = 10 * parts[at] + (uint32_t)(*c - '0');
     }
     same("the version's number", TRF_VERSION_NUMBER, 10000 * parts[0] + 100 * parts[1] + parts[2]);
-    same("the version", TRF_VERSION_NUMBER, 20101);
+    same("the version", TRF_VERSION_NUMBER, 20200);
     same("an acceptance in words", (uint64_t)strcmp(trf_words(TRF_ACCEPTED), "accepted"), 0);
     for (uint32_t number = 1; number <= TRF_NO_PLACE; number++)
         same("a refusal without words", strcmp(trf_words(number), trf_words(TRF_NO_PLACE + 1)) == 0, 0);
@@ -332,6 +350,7 @@ int check_layout(void)
         return FAILED; /* a call would write past what is answered */
     memset(file, '\r', EMPTY_LINES);
     memcpy(file + EMPTY_LINES, report, FILE_BYTES - EMPTY_LINES);
+    unknown();
     for (size_t i = 0; i < 2; i++) {
         accepted(patterns[i]);
         refused(patterns[i]);

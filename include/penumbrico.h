@@ -12,8 +12,8 @@
    caller must change: a struct, a size, a call or what a part of an answer means. The second moves where the box carries more or gives a file another
    answer, the third where neither does. Since 2, trf_write takes how the lines end: what was compiled for 1, or declares the calls by itself, as a program
    in another language does, links with this archive all the same and must be made again. */
-#define TRF_VERSION "2.1.1"
-#define TRF_VERSION_NUMBER 20101
+#define TRF_VERSION "2.2.0"
+#define TRF_VERSION_NUMBER 20200
 
 #ifdef PENUMBRICO_NO_HEADERS /* for a compiler without the C library's headers: the names that gcc and clang have built in */
 typedef __UINT8_TYPE__ uint8_t;
@@ -59,6 +59,10 @@ enum {
     TRF_ACCELERATION_CELLS = 32, /* the 250 records, in file order */
     TRF_LINE_CELLS = 232         /* line numbers: of the player at cell place, of the 250 record i at cell 200 + i */
 };
+
+/* A cell of results holds what the report has, a letter as a capital, and a bye that was left blank as 'Z'. Beside an opponent a blank is a result that is not
+   known yet: trf_read makes it this byte, which a report never has, and trf_write makes it a blank again. */
+enum { TRF_UNKNOWN_RESULT = '?' };
 
 /* The refusals: number, name, words. docs/REFUSALS.md says of each where its line and round point and what to do about it. The words stand here once: this
    table makes the names and trf_words below, and ./list and ./rewrite print them from it. */
