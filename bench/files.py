@@ -2,7 +2,8 @@
 
 MOST_FILE = 65_535
 MOST_TEXT = 2_048
-WORTH = {"1": 10, "0": 0, "=": 5, "W": 10, "L": 0, "D": 5, "+": 10, "-": 0, "H": 5, "F": 10, "U": 10, "Z": 0}
+WORTH = {"1": 10, "0": 0, "=": 5, "W": 10, "L": 0, "D": 5, "+": 10, "-": 0, "H": 5, "F": 10, "U": 10, "Z": 0, " ": 5}
+UNKNOWN = ["  "]
 GAMES = ["10", "01", "==", "10", "01", "WL", "LW", "DD", "+-", "10", "=="]
 SET_BY_ARBITER = ["00", "=0", "0=", "=0", "0="]  # five: of three, `entries` would give every game of a round the same one
 TITLES = ["GM ", "IM ", "WGM", "FM ", "WIM", "CM ", "WFM", "WCM", "   "]
@@ -97,6 +98,7 @@ def measured():
         ("one line of 65,535 bytes", b"x" * MOST_FILE, None),
         ("largest, every game set by the arbiter (0 with 0, = with 0)", largest(games=SET_BY_ARBITER), None),
         ("largest, refused by 14 at the last game that 14 can name", largest(misfits=True), None),
+        ("largest, no result of a game known yet", largest(games=UNKNOWN), None),
     ]
 
 

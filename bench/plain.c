@@ -29,7 +29,7 @@ enum {
 /* ---- result codes ---- */
 
 enum { NO_CODE, BYE, GAME };
-enum { WIN, DRAW, LOSS, ABSENT, PAIRING_BYE, OTHER };
+enum { WIN, DRAW, LOSS, ABSENT, PAIRING_BYE, UNKNOWN };
 
 static const char value_letters[SLOTS + 1] = "WDLAPX";
 static const uint32_t default_values[SLOTS] = {10, 5, 0, 0, 10, 5};
@@ -40,6 +40,7 @@ typedef struct {
     uint8_t worth; /* the value that it earns */
 } code;
 
+/* A blank is a bye's; a game's is ? in the tables, and ? stands in no file. */
 static const code codes[256] = {
     [' '] = {'Z', BYE, ABSENT},
     ['H'] = {'H', BYE, DRAW},        ['h'] = {'H', BYE, DRAW},
@@ -54,11 +55,12 @@ static const code codes[256] = {
     ['L'] = {'L', GAME, LOSS},       ['l'] = {'L', GAME, LOSS},
     ['+'] = {'+', GAME, WIN},
     ['-'] = {'-', GAME, ABSENT},
+    ['?'] = {'?', GAME, UNKNOWN},
 };
 
 /* By a player's result in a game: what the opponent may have, then 0, which no entry has. */
 static const uint8_t fits[256][4] = {
-    ['1'] = "0", ['='] = "=0", ['0'] = "1=0", ['W'] = "L", ['D'] = "D", ['L'] = "W", ['+'] = "-", ['-'] = "+-",
+    ['1'] = "0", ['='] = "=0", ['0'] = "1=0", ['W'] = "L", ['D'] = "D", ['L'] = "W", ['+'] = "-", ['-'] = "+-", ['?'] = "?",
 };
 
 /* ---- bytes and fields ---- */
@@ -462,8 +464,8 @@ static uint32_t read_values(reader *r, const record *line)
     /* After the last slot, since W and D may stand in any of them: a P or X not given takes the event's own W or D, given or default. */
     if (!given[PAIRING_BYE])
         values[PAIRING_BYE] = values[WIN];
-    if (!given[OTHER])
-        values[OTHER] = values[DRAW];
+    if (!given[UNKNOWN])
+        values[UNKNOWN] = values[DRAW];
     memcpy(r->values, values, sizeof values);
     return 0;
 }
@@ -504,11 +506,13 @@ static bool read_entry(const uint8_t *column, entry *e)
         return false;
     if (colour != 'w' && colour != 'b' && colour != '-' && colour != ' ')
         return false;
-    if (codes[result].kind == NO_CODE)
+    if (codes[result].kind == NO_CODE || result == '?')
         return false;
+    /* An opponent, a colour and a blank result: whether it is a game is seen when all players are known. */
+    bool is_unknown = result == ' ' && id != 0 && (colour == 'w' || colour == 'b');
     e->opponent = (uint32_t)id;
     e->colour = colour == ' ' ? '-' : colour;
-    e->result = codes[result].letter;
+    e->result = is_unknown ? '?' : codes[result].letter;
     e->is_used = !no_id || colour != ' ' || result != ' ';
     return true;
 }
@@ -956,7 +960,7 @@ static uint8_t *put_entry(uint8_t *out, const tournament *t, size_t cell)
     out = put_byte(out, ' ');
     out = put_byte(out, t->colours[cell]);
     out = put_byte(out, ' ');
-    return put_byte(out, t->results[cell]);
+    return put_byte(out, t->results[cell] == '?' ? ' ' : t->results[cell]);
 }
 
 static uint8_t *put_player(uint8_t *out, const tournament *t, uint32_t place, bool cr_alone)

@@ -67,7 +67,7 @@ static void change_unused(chance *c, reading *r)
     size_t cell = unused_cell(c, r, which);
     if (r->answer.players > TRF_MOST_PLAYERS || r->answer.rounds > TRF_MOST_ROUNDS || cell >= TABLE[which].listed) return;
     if (one_in(c, 2)) change_cell_at(c, r, which, cell);
-    else *cell_of(&r->t, which, cell) = byte_of(c, " -0Z\r\1");
+    else *cell_of(&r->t, which, cell) = byte_of(c, " -0Z?\r\1");
 }
 
 static size_t any_length(chance *c, size_t old)
@@ -186,6 +186,17 @@ static void change_case(chance *c, reading *r)
     r->t.results[entry_cell(below(c, r->answer.players), below(c, r->answer.rounds))] |= 32;
 }
 
+/* An entry, or both sides of a game, with `?` and its points, and at times a blank in place of it as a file has it. */
+static void change_unknown(chance *c, reading *r)
+{
+    if (r->answer.players == 0 || r->answer.players > TRF_MOST_PLAYERS || r->answer.rounds == 0 || r->answer.rounds > TRF_MOST_ROUNDS) return;
+    uint32_t player = below(c, r->answer.players), round = below(c, r->answer.rounds), other = place_of(r, r->t.opponents[entry_cell(player, round)]);
+    uint8_t *own = &r->t.results[entry_cell(player, round)], *others = other < r->answer.players && !one_in(c, 3) ? &r->t.results[entry_cell(other, round)] : own;
+    *own = *others = '?';
+    if (!one_in(c, 4)) fix_points(r);
+    if (one_in(c, 3)) *own = *others = ' ';
+}
+
 /* Other columns 10 to 79 for a player, all by their rules. */
 static void change_kept(chance *c, reading *r)
 {
@@ -217,7 +228,8 @@ void damage_reading(chance *c, reading *r)
         fill_at_random(c, r);
         return;
     }
-    switch (below(c, 13)) {
+    switch (below(c, 14)) {
+    case 13: change_unknown(c, r); break;
     case 12: change_case(c, r); break;
     case 0: case 1: change_used(c, r); break;
     case 2: case 3: change_unused(c, r); break;

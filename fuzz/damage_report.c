@@ -55,6 +55,21 @@ static void change_column(chance *c, report *r)
     put_column(l, column, is_entry && !one_in(c, 3) ? entry_byte(c, column) : any_byte(c));
 }
 
+/* An entry's result blank or `?`, its colour not that of a game, or the line cut about them: mostly the entry that ends the line. */
+static void change_entry(chance *c, report *r)
+{
+    line *l = any_line(c, r);
+    if (!has_code(l, "001") || l->length < 92 || l->length > 290) return;
+    uint32_t last = (uint32_t)(l->length - 92) / 10, column = 92 + 10 * (one_in(c, 3) ? below(c, last + 1) : last);
+    uint32_t cut = between(c, column + 3, column + 7);
+    if (one_in(c, 3)) {
+        if (l->length > cut) l->length = cut;
+        return;
+    }
+    put_column(l, column + 7, byte_of(c, "  ?"));
+    if (one_in(c, 3)) put_column(l, column + 5, byte_of(c, " -"));
+}
+
 /* A few columns blank, or as another line has them: mostly whole fields. */
 static void change_field(chance *c, report *r)
 {
@@ -286,7 +301,7 @@ typedef void change(chance *c, report *r);
 static change *const CHANGES[] = {
     change_column, change_column, change_column, change_column, change_column, change_column, change_column, change_column,
     shift_columns, shift_columns, cut_line, lengthen_line, lengthen_line, put_bad_byte, put_bad_byte, change_end, change_end, drop_last_end,
-    change_field, change_field, change_field, change_slot, give_or_leave_out, change_bound, change_code, change_code, repeat_line, repeat_line, repeat_record, lose_line, lose_records, move_line, add_passed, add_text_lines, add_accelerations,
+    change_entry, change_entry, change_field, change_field, change_field, change_slot, give_or_leave_out, change_bound, change_code, change_code, repeat_line, repeat_line, repeat_record, lose_line, lose_records, move_line, add_passed, add_text_lines, add_accelerations,
 };
 
 void damage_report(chance *c, report *r)

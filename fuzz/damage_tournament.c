@@ -5,7 +5,7 @@ static uint32_t any_player(chance *c, const reading *r) { return below(c, r->ans
 static uint32_t any_round(chance *c, const reading *r) { return below(c, r->answer.rounds); }
 static size_t any_entry(chance *c, const reading *r) { return entry_cell(any_player(c, r), any_round(c, r)); }
 
-static const char RESULTS_OF_ALL[] = "1=0WDL+-HFUZ";
+static const char RESULTS_OF_ALL[] = "1=0WDL+-HFUZ?";
 
 static void change_result(chance *c, tournament *to) { to->r.t.results[any_entry(c, &to->r)] = byte_of(c, RESULTS_OF_ALL); }
 
@@ -26,7 +26,7 @@ static void change_opponent(chance *c, tournament *to)
 /* Other results on both sides of a game: at times two that fit each other, else any two. */
 static void change_game(chance *c, tournament *to)
 {
-    static const char OF_GAMES[] = "1=0WDL+-";
+    static const char OF_GAMES[] = "1=0WDL+-?";
     reading *r = &to->r;
     const char *fit = FITS[below(c, FITTING)];
     uint8_t own = (uint8_t)fit[0], others = (uint8_t)fit[1];
@@ -56,6 +56,45 @@ static void make_bye(tables *t, size_t at, uint8_t letter)
     t->results[at] = letter;
 }
 
+/* The cells of both sides of a game, of an unknown one if there is any; 0 where nobody plays. */
+static int find_unknown(chance *c, const reading *r, size_t *own, size_t *others)
+{
+    uint32_t rounds = r->answer.rounds, entries = r->answer.players * rounds, first = below(c, entries);
+    int is_found = 0;
+    for (uint32_t i = 0; i < entries; i++) {
+        uint32_t at = (first + i) % entries, round = at % rounds;
+        size_t cell = entry_cell(at / rounds, round);
+        if (r->t.opponents[cell] == 0 || (is_found && r->t.results[cell] != '?')) continue;
+        uint32_t other = place_of(r, r->t.opponents[cell]);
+        if (other == r->answer.players) continue;
+        *own = cell;
+        *others = entry_cell(other, round);
+        is_found = 1;
+        if (r->t.results[cell] == '?') break;
+    }
+    return is_found;
+}
+
+/* One side of an unknown game against a rule that it must keep, or its round past 142. */
+static void damage_unknown(chance *c, tournament *to)
+{
+    tables *t = &to->r.t;
+    size_t own, others;
+    if (!find_unknown(c, &to->r, &own, &others)) return;
+    uint32_t player = (uint32_t)(own / TRF_MOST_ROUNDS), round = (uint32_t)(own % TRF_MOST_ROUNDS);
+    t->results[own] = t->results[others] = '?';
+    switch (below(c, 9)) {
+    case 0: case 1: t->results[own] = byte_of(c, "1=0WDL+-"); break;
+    case 2: t->colours[own] = byte_of(c, "- "); break;
+    case 3: t->colours[own] = t->colours[others]; break;
+    case 4: t->opponents[own] = one_in(c, 2) ? 0 : t->starts[player]; break;
+    case 5: t->opponents[own] = one_in(c, 2) ? between(c, 1, 9999) : t->starts[any_player(c, &to->r)]; break;
+    case 6: make_bye(t, others, byte_of(c, "HFUZ")); break;
+    case 7: to->stated_rounds = round; break;
+    default: t->colours[own] = t->colours[others] = byte_of(c, "- ");
+    }
+}
+
 /* A game becomes two byes; with U on both sides it is refusal 15. */
 static void unpair(chance *c, tournament *to)
 {
@@ -77,11 +116,12 @@ static void give_u(chance *c, tournament *to)
     }
 }
 
+/* Off by a little, by what an unknown result earns, or at large. */
 static void change_points(chance *c, tournament *to)
 {
-    static const uint32_t STEPS[] = {1, 5, 10, 999, 995, 990};
+    uint32_t x = to->r.answer.values[VALUE_X] % 1000, steps[] = {1, 5, 10, 999, 995, 990, x, 1000 - x};
     uint32_t *points = &to->r.t.points[any_player(c, &to->r)];
-    *points = one_in(c, 5) ? below(c, 1000) : (*points + STEPS[below(c, COUNT_OF(STEPS))]) % 1000;
+    *points = one_in(c, 5) ? below(c, 1000) : (*points + steps[below(c, COUNT_OF(steps))]) % 1000;
 }
 
 static void change_value(chance *c, tournament *to)
@@ -177,7 +217,7 @@ static void swap_players(chance *c, tournament *to)
 
 typedef void change(chance *c, tournament *to);
 
-static change *const OF_ENTRIES[] = {change_result, change_colour, change_opponent, change_game, swap_entries, unpair, unpair, give_u};
+static change *const OF_ENTRIES[] = {change_result, change_colour, change_opponent, change_game, swap_entries, unpair, unpair, give_u, damage_unknown};
 static change *const OF_THE_REST[] = {change_points, change_value, change_rank, change_start, renumber, add_acceleration, add_two_accelerations,
                                       change_acceleration, state_rounds, state_rounds, add_round, swap_players};
 

@@ -265,6 +265,23 @@ static void law_of_results(const reading *r)
     for (int i = 0; i < FITTING; i++) readings_with[i] += is_there[i];
 }
 
+/* "A 001 line has exactly 89+10R bytes for R rounds", and "the writer puts a blank" for an unknown result. These lines stand last. */
+static void law_of_player_lines(const reading *r)
+{
+    const writing *w = &written[TRF_CR];
+    size_t line_bytes = 89 + 10 * (size_t)r->answer.rounds + 1, players = r->answer.players;
+    now.step = "write, the 001 lines";
+    if (w->answer.length < line_bytes * players) disagree("%lu bytes do not hold the 001 lines", (unsigned long)w->answer.length);
+    for (uint32_t place = 0; place < players; place++) {
+        const uint8_t *line = w->bytes + w->answer.length - line_bytes * (players - place);
+        if (memcmp(line, "001 ", 4) != 0 || line[line_bytes - 1] != '\r') disagree("the line of place %u has not %lu bytes", place, (unsigned long)line_bytes - 1);
+        for (uint32_t round = 0; round < r->answer.rounds; round++) {
+            uint8_t result = r->t.results[entry_cell(place, round)], byte = line[98 + 10 * round];
+            if (byte != (result == '?' ? ' ' : result)) disagree("place %u, round %u: byte %u written for %u", place, round + 1, byte, result);
+        }
+    }
+}
+
 /* A reading to writer and question, with both line ends and all kinds of room. Hands back whether it is an accepted file's. */
 static int try_reading(chance *c, reading *r)
 {
@@ -276,6 +293,7 @@ static int try_reading(chance *c, reading *r)
     int is_accepted = written[first].answer.number == 0;
     if (is_accepted) {
         law_of_results(r);
+        law_of_player_lines(r);
         law_of_round_trip(c, r, first);
         law_of_round_trip(c, r, !first);
     }

@@ -85,6 +85,13 @@ static void spell_bye(chance *c, line *l, size_t column, uint8_t letter, int may
     if (!is_z || !may_be_blank || one_in(c, 2)) put_column(l, column + 7, any_case(c, letter));
 }
 
+/* The blank of an unknown result, which need not stand where the line ends with its entry. */
+static void spell_unknown(chance *c, line *l, size_t column, int is_plain)
+{
+    size_t colour = column + 5, last = is_plain ? column + 7 : between(c, (uint32_t)colour, (uint32_t)colour + 2);
+    if (last > colour) put_column(l, last, ' ');
+}
+
 static int is_bye(uint32_t opponent, uint8_t colour, uint8_t result)
 {
     return opponent == 0 && colour == '-' && (result == 'H' || result == 'F' || result == 'U' || result == 'Z');
@@ -102,7 +109,8 @@ static void spell_entry(chance *c, line *l, const manner *m, const tournament *t
     }
     put_number(l, column, column + 3, opponent, opponent == 0 || m->zeros);
     put_column(l, column + 5, colour);
-    put_column(l, column + 7, m->is_plain ? result : any_case(c, result));
+    if (result == '?') spell_unknown(c, l, column, m->is_plain);
+    else put_column(l, column + 7, m->is_plain ? result : any_case(c, result));
 }
 
 static void spell_player(chance *c, line *l, const manner *m, const tournament *to, uint32_t player)

@@ -81,6 +81,7 @@ uint32_t worth(const trf_answer *answer, uint8_t result)
     case '0': case 'L': return answer->values[VALUE_L];
     case '-': case 'Z': return answer->values[VALUE_A];
     case 'U': return answer->values[VALUE_P];
+    case '?': return answer->values[VALUE_X];
     default: return 0;
     }
 }

@@ -3,7 +3,7 @@
 const uint32_t DEFAULT_VALUES[6] = {10, 5, 0, 0, 10, 5};
 const char *const TEXT_CODES[16] = {"012", "022", "032", "042", "052", "062", "072", "092",
                                     "102", "122", "132", "192", "202", "212", "222", "112"};
-const char FITS[FITTING][3] = {"10", "01", "==", "=0", "0=", "00", "WL", "LW", "DD", "+-", "-+", "--"};
+const char FITS[FITTING][3] = {"10", "01", "==", "=0", "0=", "00", "WL", "LW", "DD", "+-", "-+", "--", "??"};
 enum { ONCE_CODES = 14 };       /* TEXT_CODES 1 to 14 */
 enum { MOST_TEXT_LINES = 511 }; /* 012 and three bytes, 510 times a bare 112 */
 
@@ -38,7 +38,6 @@ static void draw_values(chance *c, trf_answer *answer)
         if (how == 4 || (how == 3 && one_in(c, 3))) answer->values[i] = COMMON[below(c, COUNT_OF(COMMON))];
         if (how == 5) answer->values[i] = one_in(c, 4) ? most : below(c, most + 1);
     }
-    if (how == 5) answer->values[VALUE_X] = below(c, 1000); /* no result earns X */
     if (one_in(c, 2)) answer->values[VALUE_P] = answer->values[VALUE_W];
     if (one_in(c, 2)) answer->values[VALUE_X] = answer->values[VALUE_D];
 }
@@ -101,16 +100,27 @@ static void put_entry(reading *r, uint32_t player, uint32_t round, uint32_t oppo
     r->t.results[at] = result;
 }
 
-static void draw_game(chance *c, reading *r, uint32_t one, uint32_t other, uint32_t round)
+static void draw_game(chance *c, reading *r, uint32_t one, uint32_t other, uint32_t round, int is_unknown)
 {
-    const char *fit = FITS[below(c, FITTING)];
+    const char *fit = is_unknown ? "??" : FITS[below(c, KNOWN_FITTING)];
     int white = one_in(c, 2);
     put_entry(r, one, round, r->t.starts[other], white ? 'w' : 'b', (uint8_t)fit[0]);
     put_entry(r, other, round, r->t.starts[one], white ? 'b' : 'w', (uint8_t)fit[1]);
 }
 
+/* When the report is made: with every result, while the last round is played, with games left open in any round. */
+enum { ENDED, LAST_ROUND, ANY_ROUND, STAGES };
+enum { ALL_GAMES = 8 };
+
+/* Of eight games of a round, how many are unknown. */
+static uint32_t draw_unknown(chance *c, int stage, int is_last)
+{
+    if (stage == ENDED || (stage == LAST_ROUND && !is_last)) return 0;
+    return stage == LAST_ROUND && one_in(c, 3) ? ALL_GAMES : below(c, ALL_GAMES);
+}
+
 /* Pairs most of the players; the others have byes, at most one of them U. */
-static void draw_round(chance *c, reading *r, uint32_t round)
+static void draw_round(chance *c, reading *r, uint32_t round, uint32_t unknown)
 {
     uint16_t order[TRF_MOST_PLAYERS];
     uint32_t n = r->answer.players, byes = one_in(c, 6) ? 2 : 8, next = 0;
@@ -122,7 +132,7 @@ static void draw_round(chance *c, reading *r, uint32_t round)
     }
     while (next < n) {
         if (next + 1 < n && !one_in(c, byes)) {
-            draw_game(c, r, order[next], order[next + 1], round);
+            draw_game(c, r, order[next], order[next + 1], round, below(c, ALL_GAMES) < unknown);
             next += 2;
             continue;
         }
@@ -130,6 +140,36 @@ static void draw_round(chance *c, reading *r, uint32_t round)
         is_given |= letter == 'U';
         put_entry(r, order[next++], round, 0, '-', letter);
     }
+}
+
+static void draw_entries(chance *c, reading *r)
+{
+    int stage = one_in(c, 4) ? ENDED : (int)below(c, STAGES);
+    uint32_t rounds = r->answer.rounds;
+    for (uint32_t round = 0; round < rounds; round++) draw_round(c, r, round, draw_unknown(c, stage, round + 1 == rounds));
+}
+
+/* The greatest X with which every sum can be stated. */
+static uint32_t most_x(const reading *r)
+{
+    uint32_t most = 999;
+    for (uint32_t i = 0; i < r->answer.players; i++) {
+        uint32_t unknown = 0, known = 0;
+        for (uint32_t round = 0; round < r->answer.rounds; round++) {
+            uint8_t result = r->t.results[entry_cell(i, round)];
+            if (result == '?') unknown++;
+            else known += worth(&r->answer, result);
+        }
+        if (unknown > 0 && (999 - known) / unknown < most) most = (999 - known) / unknown;
+    }
+    return most;
+}
+
+/* Any X, after the entries that earn it and before the points that count it. */
+static void draw_x(chance *c, reading *r)
+{
+    uint32_t most = most_x(r);
+    r->answer.values[VALUE_X] = one_in(c, 4) ? most : below(c, most + 1);
 }
 
 void fix_points(reading *r)
@@ -249,7 +289,8 @@ void draw_tournament(chance *c, tournament *to)
     draw_values(c, &r->answer);
     draw_starts(c, r);
     for (uint32_t i = 0; i < r->answer.players; i++) draw_kept(c, r->t.kept + i * KEPT_COLUMNS);
-    for (uint32_t round = 0; round < r->answer.rounds; round++) draw_round(c, r, round);
+    draw_entries(c, r);
+    if (one_in(c, 8)) draw_x(c, r);
     fix_points(r);
     draw_accelerations(c, r, is_largest);
     if (to->is_longest) draw_most_lines(c, r);

@@ -14,8 +14,8 @@ typedef struct {
 
 extern const uint32_t DEFAULT_VALUES[6];
 extern const char *const TEXT_CODES[16]; /* 012 first, 112 last */
-enum { FITTING = 12 };
-extern const char FITS[FITTING][3]; /* two results of a game that fit each other, each way round */
+enum { KNOWN_FITTING = 12, FITTING = 13 };
+extern const char FITS[FITTING][3]; /* two results of a game that fit each other, each way round; the unknown ones last */
 
 void draw_tournament(chance *c, tournament *to);
 /* Columns 10 to 79 of a player's line. */
