@@ -275,6 +275,13 @@ CHANGES = [
     *[("Entries", "among (e .colour) gameColours && among (e .result) heldGameResults", '%s && among (e .result) heldGameResults' % test) for test in (
         '(among (e .colour) gameColours || eqb (e .result) unknownResult)', '(among (e .colour) gameColours && (not (eqb (e .result) unknownResult) || eqb (e .colour) (code "w")))')],
     ("Entries", "isGame t p e = isAnother t p (e .id) &&", "isGame t p e = (isAnother t p (e .id) || eqb (e .result) unknownResult) &&"),
+    # how many there may be: one of a player, one game of a round, none before a later game, none beside a U
+    *[("Entries", "    asked (λ q. fits (entryOf r (playerAt t place) .result) (entryOf r q .result)) (opponent t (entryOf r (playerAt t place)))\n",
+       "    asked (λ q. fits (entryOf r (playerAt t place) .result) (entryOf r q .result)) (opponent t (entryOf r (playerAt t place))) && (not (eqb (entryOf r (playerAt t place) .result) unknownResult) || %s)\n" % few) for few in (
+        "not (any (λ (x : Entry). eqb (x .result) unknownResult) (take (r - 1) (playerAt t place .entries)))",
+        "lib.Dec.leb (sumOf (λ (q : Player). cond (eqb (entryOf r q .result) unknownResult) 1 0) (t .players)) 2",
+        "not (any (λ (x : Entry). not (eqb (x .id) 0)) (lib.ListN.drop r (playerAt t place .entries)))",
+        "not (any (hasU r) (t .players))")],
     ("Entries", " ∷ (unknownResult ∷ unknownResult ∷ []) ∷ []", " ∷ []"),
     *[("Entries", "(unknownResult ∷ unknownResult ∷ []) ∷", '(unknownResult ∷ unknownResult ∷ []) ∷ (unknownResult ∷ code "%s" ∷ []) ∷' % c) for c in "1=0WDL+-HFUZ"],
     *[("Entries", "(unknownResult ∷ unknownResult ∷ []) ∷", '(unknownResult ∷ code "%s" ∷ []) ∷' % c) for c in "1=0WDL+-"],

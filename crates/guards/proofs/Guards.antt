@@ -304,6 +304,12 @@ unknownRows =
     -- ---- results that are not known yet
     -- another player, a colour and a blank, in any round; the line may end before its blank
     (accepts (two " 0.5" "   2 w  " " 0.5" "   1 b  ") 2 1 0, refl) ∷ (accepts (two " 0.5" "   2 b" " 0.5" "0001 w ") 2 1 0, refl) ∷ (accepts (twoAt 282 " 0.5" "   2 w" " 0.5" "   1 b  ") 2 20 0, refl) ∷
+    -- in each round of a player, several in a round, beside known results and a U, before a result that is known
+    (
+      accepts (cup ++ (person "   1" " 2.0" "   1" ((92, "   2 w       3 b 1     4 w") ∷ []) ++ (person "   2" " 1.5" "   4" ((92, "   1 b       5 w       3 b") ∷ []) ++ (person "   3" " 1.0" "   5" ((92, "   4 w       1 w 0     2 w") ∷ []) ++
+          (person "   4" " 2.0" "   2" ((92, "   3 b    0000 - U     1 b") ∷ []) ++ person "   5" " 2.5" "   3" ((92, "0000 - U     2 b    0000 - U") ∷ [])))))) 5 3 0,
+      refl,
+    ) ∷
     -- no colour of a game, nobody's id, the player's own id, no id: neither bye nor game
     (refuses (two " 0.5" "   2    " " 0.5" "   1 b  ") 12 2 1, refl) ∷ (refuses (two " 0.5" "   2 -  " " 0.5" "   1 b  ") 12 2 1, refl) ∷ (refuses (two " 0.5" "   2" " 0.5" "   1") 12 2 1, refl) ∷
     (refuses (two " 0.5" "   2 -" " 0.5" "   1 -") 12 2 1, refl) ∷ (refuses (two " 0.5" "   2 w  " " 0.5" "   1") 12 3 1, refl) ∷ (refuses (two " 0.5" "   2 w  " " 0.5" "   1 -") 12 3 1, refl) ∷
