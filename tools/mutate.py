@@ -268,7 +268,7 @@ CHANGES = [
     *[("Players", 'unknownResult = code "?"', 'unknownResult = code "%s"' % c) for c in " Z=0-!"],
     ("Players", "heldGameResults = unknownResult ∷ gameResults", "heldGameResults = gameResults"),
     ("Players", "heldGameResults = unknownResult ∷ gameResults", 'heldGameResults = code " " ∷ unknownResult ∷ gameResults'),
-    ("Players", "slotResults = gameResults ++", "slotResults = heldGameResults ++"),
+    ("Players", '(byeResults ++ ascii " ")', '(byeResults ++ ascii " ?")'),
     *[("Tournament", "blankAs unknownResult (s .result)", other) for other in ('blankAs (code "Z") (s .result)', 'blankAs (code "=") (s .result)', 'blankAs (code "-") (s .result)', "s .result", 'blankAs unknownResult (cond (eqb (s .result) (code "=")) blank (s .result))')],
     *[("Tournament", "colour = s .colour; result = blankAs unknownResult", 'colour = blankAs (code "%s") (s .colour); result = blankAs unknownResult' % c) for c in "wb"],
     ("Tournament", "(record { id = s .id; colour = s .colour; result = blankAs", "(record { id = cond (isBlank (s .result)) 0 (s .id); colour = s .colour; result = blankAs"),
