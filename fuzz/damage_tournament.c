@@ -75,7 +75,7 @@ static int find_unknown(chance *c, const reading *r, size_t *own, size_t *others
     return is_found;
 }
 
-/* One side of an unknown game against a rule that it must keep, or its round past 142. */
+/* An unknown game, made so where there is none, against a rule that it must keep, mostly on one side; or its round past 142. */
 static void damage_unknown(chance *c, tournament *to)
 {
     tables *t = &to->r.t;

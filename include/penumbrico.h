@@ -61,7 +61,7 @@ enum {
 };
 
 /* A cell of results holds what the report has, a letter as a capital, and a bye that was left blank as 'Z'. Beside an opponent a blank is a result that is not
-   known yet: trf_read makes it this byte, which a report never has, and trf_write makes it a blank again. */
+   known yet: trf_read makes it this byte, which is no result of a report, and trf_write makes it a blank again. */
 enum { TRF_UNKNOWN_RESULT = '?' };
 
 /* The refusals: number, name, words. docs/REFUSALS.md says of each where its line and round point and what to do about it. The words stand here once: this

@@ -94,7 +94,7 @@ pub record Demand-2 : Type 0 where
   pub own-unknown : (items : List Item) → NotGiven (code "X") items → tournamentOf items .scoring .unknown ≡ tournamentOf items .scoring .draw
   -- "Results that fit", by which 14 is given: of all bytes these, and no others
   pub results-fit : (own theirs : ℕ) → fits own theirs ≡ isOneOf (own ∷ theirs ∷ []) fittingWays
-  -- document 02: "An entry with an opponent, a colour `w` or `b` and a blank result is an unknown result. [..] The tables hold `?` there": a blank beside any id is held as `?`, and
+  -- document 02: "An entry with an opponent, a colour `w` or `b` and a blank result is an unknown result. [..] The tables hold `?` there": a blank beside any id but 0 is held as `?`, and
   -- the entry is a game exactly when the id is another player's and the colour is `w` or `b`
   pub unknown-held : (t : Tournament) (p : Player) (s : Slot) → 1 ≤ s .id → s .result ≡ code " "
       → (normal s ≡ record { id = s .id; colour = s .colour; result = code "?" }) × (isGame t p (normal s) ≡ isAnother t p (s .id) && among (s .colour) (ascii "wb"))

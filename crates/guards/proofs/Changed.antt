@@ -13,7 +13,7 @@ use Rattle.kit.specs.Ascii.{ascii}
 use Rattle.kit.specs.Lists.{all, any, among, flat}
 use Rattle.kit.specs.First.{AllOf}
 use Rattle.kit.proofs.Bools.{clash, not-so}
-use Rattle.kit.proofs.Firsts.{all-of-at, any-of}
+use Rattle.kit.proofs.Firsts.{all-of-at, found-of}
 use Rattle.types.specs.declared.Answer.{Answer}
 use Rattle.types.specs.declared.Written.{Written}
 use Rattle.types.specs.declared.Score.{Score}
@@ -42,7 +42,7 @@ start-at (p ∷ l) (suc i) = start-at l i
 
 no-start-zero : (R : ℕ) (ps : List Player) → AllOf (LawfulPlayer R) ps → any (λ q. eqb (q .start) 0) ps ≡ false
 no-start-zero R ps k = not-so (any (λ q. eqb (q .start) 0) ps) (λ e.
-    let q = any-of (LawfulPlayer R) (λ q. eqb (q .start) 0) ps k e in
+    let q = found-of (LawfulPlayer R) (λ q. eqb (q .start) 0) ps k e in
     clash (sym (ap isStart (eqb-true (q .0 .start) 0 (q .1))) ∙ q .2 .start))
 
 module _ (answer : Answer) (tables : Tables) (long : enough tables ≡ true) where

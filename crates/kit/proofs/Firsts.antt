@@ -56,9 +56,9 @@ all-of-at P d (x ∷ l) h zero m = h .0
 all-of-at P d (x ∷ l) h (suc k) m = all-of-at P d l (h .1) k (omega arith)
 
 -- one of the list that a test finds
-pub any-of : {L : Type 0} (P : L → Type 0) (f : L → Bool) (l : List L) → AllOf P l → any f l ≡ true → (x : L) × (f x ≡ true) × P x
-any-of P f [] h e = clash e
-any-of P f (x ∷ l) h e = go (f x) refl e (any-of P f l (h .1))
+pub found-of : {L : Type 0} (P : L → Type 0) (f : L → Bool) (l : List L) → AllOf P l → any f l ≡ true → (x : L) × (f x ≡ true) × P x
+found-of P f [] h e = clash e
+found-of P f (x ∷ l) h e = go (f x) refl e (found-of P f l (h .1))
   where
     go : (v : Bool) → f x ≡ v → v || any f l ≡ true → (any f l ≡ true → (x : _) × (f x ≡ true) × P x) → (x : _) × (f x ≡ true) × P x
     go true u e ih = (x, u, h .0)

@@ -15,10 +15,11 @@ use Rattle.join.specs.Check.{worthBy}
 abbrev pub knownResults : List ℕ
 knownResults = gameResults ++ byeResults
 
--- the order: the results of games, and after them those of byes and the unknown one
+-- what stands after the results of games: those of byes, then the unknown one
 abbrev pub otherResults : List ℕ
 otherResults = byeResults ++ (unknownResult ∷ [])
 
+-- the order
 abbrev pub allResults : List ℕ
 allResults = gameResults ++ otherResults
 
@@ -29,7 +30,7 @@ resultAt k = getD allResults k 0
 unfoldable pub resultPlace : ℕ → ℕ
 resultPlace c = placeAmong c allResults
 
--- a cell for each two of the eight, which says whether they fit
+-- a cell for each two of the eight results of games, which says whether they fit
 pub record IsGrid (cells : List (List Bool)) : Type 0 where
   pub each : (x y : ℕ) → x < length gameResults → y < length gameResults → getD (getD cells x []) y false ≡ fits (resultAt x) (resultAt y)
 

@@ -36,7 +36,7 @@ enum Slot {
     Bad,
 }
 
-// A result's letter, as a capital.
+// A round's result as it is held beside an opponent: a letter as a capital, a blank as the unknown one.
 enum Letter {
     Value(u8),
     Bad,

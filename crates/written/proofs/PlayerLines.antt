@@ -13,7 +13,7 @@ use borrow.Author.Tests.{eqb-true, not-true}
 use Rattle.kit.specs.Lists.{all, any, among, from, flat, Each}
 use Rattle.kit.specs.First.{AllOf}
 use Rattle.kit.proofs.Bools.{and, both, within, among-all}
-use Rattle.kit.proofs.Firsts.{any-of}
+use Rattle.kit.proofs.Firsts.{found-of}
 use Rattle.kit.proofs.Lists.{flat-append}
 use Rattle.law.specs.Sizes.{mostRounds, mostStart, mostRank}
 use Rattle.law.specs.Lines.{allowed}
@@ -73,7 +73,7 @@ bye-good e h =
 -- an id of a player is a start number
 another-start : (t : Tournament) (p : Player) (id : ℕ) → AllOf (LawfulPlayer (t .rounds)) (t .players) → isAnother t p id ≡ true → (1 ≤ id) × (id ≤ mostStart)
 another-start t p id k h =
-    let q = any-of (LawfulPlayer (t .rounds)) (λ q. eqb (q .start) id) (t .players) k (and (not (eqb id (p .start))) (any (λ q. eqb (q .start) id) (t .players)) h .1) in
+    let q = found-of (LawfulPlayer (t .rounds)) (λ q. eqb (q .start) id) (t .players) k (and (not (eqb id (p .start))) (any (λ q. eqb (q .start) id) (t .players)) h .1) in
     let v = eqb-true (q .0 .start) id (q .1) in
     let w = within 1 mostStart (q .0 .start) (q .2 .start) in
     (omega arith, omega arith)
