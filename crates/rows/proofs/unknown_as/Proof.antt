@@ -1,6 +1,5 @@
 -- `rows::unknown_as` meets its contract. Assumes nothing.
 use mathlib.Core.Path.{refl, sym, _∙_}
-use borrow.Author.Tests.{not-false}
 use Rattle.rows.proofs.unknown_as.Statement.{statement}
 use Rattle.rows.proofs.unknown_as.Tie as tie
 
