@@ -1,5 +1,7 @@
 // Writing to one lent table: zero to its first cells, or some bytes from a cell on; and reading bytes back. Promised: what each cell that is written holds;
 // that every other cell, and the table's length, are as before. Which cells those are is the caller's to say: no order of cells is known here.
+#![tactic(auto)]
+
 ghost use Rattle.std.specs.Prelude.{◌≡◌, ◌+◌, ◌≤◌, length, take, drop};
 ghost use Rattle.std.proofs.Math.Seq.{paste};
 ghost use Rattle.kit.specs.Table.{Holds};

@@ -1,4 +1,6 @@
 // Changes to a reading, for the test program of the writer and the question: a cell of a part, or the text.
+#![tactic(auto)]
+
 ghost use Rattle.std.specs.Prelude.{◌≡◌, length};
 
 use types::{Acceleration, Answer, LineNumber, MOST_ACCELERATIONS};

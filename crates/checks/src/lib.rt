@@ -1,5 +1,7 @@
 // The four laws that each entry keeps, 12 to 15: the first entry that breaks one. Promised: what the pure definition of join says. A search is one loop over the
 // turns, player by player and each round by round.
+#![tactic(auto)]
+
 ghost use Rattle.std.specs.Prelude.{◌≡◌, List, ℕ, ◌*◌, ◌≤◌, ◌<◌, length};
 ghost use Rattle.std.proofs.Math.Option.{Option};
 ghost use Rattle.kit.specs.Lists.{among};

@@ -1,6 +1,8 @@
 // What is asked of the cells after the last line without looking a start number up: the number of rounds, the first cell past them, the closing pass, what a player earned and
 // the first whose points are not that sum; and the first acceleration record that shares with an earlier one. Promised: each answers what the pure definition
 // of join says. A search is one loop over its cells, player by player and each round by round; the closing pass has a function for one player.
+#![tactic(auto)]
+
 ghost use Rattle.std.specs.Prelude.{◌≡◌, true, cond, ◌&&◌, List, ℕ, ◌*◌, ◌≤◌, ◌<◌, max, eqb, leb, length, get_or};
 ghost use Rattle.kit.specs.Table.{Holds};
 ghost use Rattle.law.specs.Sizes.{most_players, most_rounds, most_accelerations};

@@ -11,6 +11,8 @@
 //
 // In a text `%` stands for the line's count in four digits: 0001 in the first of N lines, 0002 in the second. What has no room is left out, so that few
 // functions here ask anything of their caller.
+#![tactic(auto)]
+
 mod prints;
 
 ghost use Rattle.std.specs.Prelude.{◌≤◌, length};

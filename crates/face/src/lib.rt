@@ -1,5 +1,7 @@
 // The face of the box: the public calls, for C or Rust to link. They are lent every table, the acceleration records as a list of structs, and ask nothing of what
 // they are lent. Each takes the records by value to the core of its work, or fills in what the core found. Promised: the statement's relations, for every input.
+#![tactic(auto)]
+
 ghost use Rattle.law.specs.Calls.{Reads, end_of, Writes, Asks};
 ghost use Rattle.face.specs.Lent.{before, after, given};
 

@@ -1,5 +1,7 @@
 // The fields of a line: what stands in some of its columns, read as document 01 says. A field is given by the number of columns before it and by its
 // width; columns past the end of the line read as blank. A field reader answers an enum, whose case for a field against its rule is Bad: refusal 7.
+#![tactic(auto)]
+
 ghost use Rattle.std.specs.Prelude.{◌≡◌, [], ◌∷◌, ◌+◌, ◌-◌, ◌≤◌, ◌<◌, length, get_or, drop};
 ghost use Rattle.std.proofs.Math.Option.{some};
 ghost use Rattle.kit.specs.Lists.{all, between, same};

@@ -1,5 +1,7 @@
 // One look at each entry: whether all of them keep the four laws, and whether none is past the rounds that there are. Most files are so, and then no search
 // for the first that is not is needed. Promised: a yes is right; after a no the searches of closings and checks tell what is wrong, and where.
+#![tactic(auto)]
+
 ghost use Rattle.std.specs.Prelude.{◌≡◌, true, List, ℕ, ◌*◌, ◌≤◌, ◌<◌, length, get_or};
 ghost use Rattle.std.proofs.Math.Option.{none};
 ghost use Rattle.law.specs.Sizes.{most_players, most_rounds};

@@ -1,5 +1,7 @@
 // The lines before the players': 142, 152, 162 and 250, each put into the lent output from a position on, which is answered moved past it. Promised: the bytes
 // are the statement's line, and every byte outside them, and the output's length, are as before. `records` and `scorings` read what is put here.
+#![tactic(auto)]
+
 ghost use Rattle.std.specs.Prelude.{map, ◌+◌, ◌*◌, ◌≤◌, length, take};
 ghost use Rattle.kit.specs.Lists.{flat};
 ghost use Rattle.law.specs.Sizes.{most_rounds, most_accelerations};

@@ -1,5 +1,7 @@
 // What the tables hold, asked cell by cell: that each used cell keeps to its rule, and that unused ones hold zero. Promised: true exactly where it is so, and
 // no table is changed. The loops over plain cells have no exit of their own, so that they can be compiled to take many cells at a time.
+#![tactic(auto)]
+
 ghost use Rattle.std.specs.Prelude.{◌≡◌, true, ℕ, ◌≤◌, ◌<◌, length, get_or};
 ghost use Rattle.std.proofs.Math.Option.{none};
 ghost use Rattle.kit.specs.Lists.{all, between};

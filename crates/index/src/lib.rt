@@ -1,5 +1,7 @@
 // The index of start numbers: a cell for each number, which says whose it is. Promised: a look-up answers what join's search through the start numbers
 // answers, and one player more in the index is one cell changed.
+#![tactic(auto)]
+
 ghost use Rattle.std.specs.Prelude.{◌≡◌, List, ℕ, ◌+◌, ◌≤◌, ◌<◌, set};
 ghost use Rattle.law.specs.Sizes.{most_players, most_start};
 ghost use Rattle.join.specs.Store.{place_of};

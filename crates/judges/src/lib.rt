@@ -1,5 +1,7 @@
 // After the last line: the number of rounds, 11, the closing pass, and the other checks of the whole file. Promised: the statement's first refusal of the
 // whole file, over the cells.
+#![tactic(auto)]
+
 ghost use Rattle.std.specs.Prelude.{◌≡◌, true, List, ◌≤◌, length};
 ghost use Rattle.types.specs.declared.Acceleration as lent;
 ghost use Rattle.law.specs.Sizes.{most_players, most_rounds};

@@ -1,4 +1,6 @@
 // The 70 columns 10-79 of a 001 line, which are kept byte by byte: taken from the line, and whether they keep to their rules.
+#![tactic(auto)]
+
 ghost use Rattle.std.specs.Prelude.{◌≡◌, [], ◌∷◌, ◌≤◌, ◌<◌, get_or};
 ghost use Rattle.kit.specs.Lists.{among, is_one_of};
 ghost use Rattle.law.specs.Columns.{cells, part, else_blank};

@@ -1,5 +1,7 @@
 // The test behind 18, which writer and question share: whether an answer and tables are the reading of a lawful tournament. Promised: true exactly of those,
 // unused cells included, and no table is changed.
+#![tactic(auto)]
+
 ghost use Rattle.std.specs.Prelude.{◌≡◌, true, ◌||◌, ℕ, ◌*◌, ◌≤◌, ◌<◌, eqb, length, get_or};
 ghost use Rattle.std.proofs.Math.Option.{none};
 ghost use Rattle.kit.specs.Lists.{among};

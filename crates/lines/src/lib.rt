@@ -1,6 +1,8 @@
 // The lines of a file, one after the other, and the bytes that a line may hold. A cursor is a place in the file; a step from it finds the first line of
 // what is left and the cursor after it. Promised: the lines found are those that the statement cuts the file into, with their terminators; a line is
 // Whole exactly where it is ended and each of its bytes is allowed.
+#![tactic(auto)]
+
 ghost use Rattle.std.specs.Prelude.{◌≡◌, true, not, ◌-◌, ◌≤◌, ◌<◌, length, take, drop};
 ghost use Rattle.kit.specs.Lists.{all};
 ghost use Rattle.law.specs.Sizes.{most_file};

@@ -1,5 +1,7 @@
 // The lines of a file read into cleared tables: the run over them, the checks of the whole file, the answer. Promised: the statement's outcome, with its
 // answer and what it leaves in the tables.
+#![tactic(auto)]
+
 ghost use Rattle.std.specs.Prelude.{◌≡◌, ◌≤◌, length};
 ghost use Rattle.law.specs.Sizes.{most_file, most_players};
 ghost use Rattle.law.specs.Refusals.{refusal};

@@ -1,4 +1,6 @@
 // A file's listing: the file is read into tables of the listed sizes, and what was read is listed; from a descriptor, and to standard output.
+#![tactic(auto)]
+
 ghost use Rattle.std.specs.Prelude.{length};
 ghost use Rattle.io.specs.Counts.{IsPrefixLen};
 ghost use Rattle.listing.specs.Outcomes.{Lists};

@@ -1,4 +1,6 @@
 // Lists the report file that stands on standard input. Standard error has one line: `accepted`, the line of a refusal, or what could not be read or written.
+#![tactic(auto)]
+
 use libc::{STDERR_FILENO, STDIN_FILENO};
 use listed::Printed;
 

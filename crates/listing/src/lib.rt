@@ -1,5 +1,7 @@
 // The listing of a reading, as bytes: a line for the answer, then one for each player. Promised: which bytes are written, and that every other byte of
 // the lent room stays. Nothing here reads or writes a file.
+#![tactic(auto)]
+
 ghost use Rattle.std.specs.Prelude.{◌≡◌, [], ◌∷◌, ◌+◌, ◌*◌, ◌≤◌, ◌<◌, length};
 ghost use Rattle.law.specs.Sizes.{most_players, most_rounds};
 ghost use Rattle.law.specs.Tables.{entry_cells};

@@ -1,5 +1,7 @@
 // The players' lines: 001 with its rounds, put into the lent output from a position on, which is answered moved past it. Promised: the bytes are the
 // statement's line of the player that the cells say, and every byte outside them, and the output's length, are as before. `rows` reads what is put here.
+#![tactic(auto)]
+
 ghost use Rattle.std.specs.Prelude.{[], ◌∷◌, map, suc, ◌+◌, ◌*◌, ◌≤◌, ◌<◌, length, take, drop};
 ghost use Rattle.kit.specs.Lists.{flat};
 ghost use Rattle.law.specs.Sizes.{most_players, most_rounds};

@@ -1,4 +1,6 @@
 // A 001 line: its player in the tables and in the index of the start numbers. Promised: what each lent cell holds afterwards, and that the step is join's.
+#![tactic(auto)]
+
 ghost use Rattle.std.specs.Prelude.{◌≡◌, List, ℕ, ◌+◌, ◌<◌, ◌≤◌};
 ghost use Rattle.types.specs.declared.Acceleration as lent;
 ghost use Rattle.law.specs.Sizes.{most_players};

@@ -1,6 +1,8 @@
 // What the lines of the report file are made of: blanks, a code, a letter, numbers, points, bytes of a table and a terminator, each put into the lent output
 // from a position on, which is answered moved past it. Promised: the bytes are the statement's, and every byte outside them, and the output's length, are as
 // before. `fields` and `lines` read what is put here.
+#![tactic(auto)]
+
 ghost use Rattle.std.specs.Prelude.{◌≡◌, cond, [], ◌∷◌, ◌+◌, ◌≤◌, ◌<◌, eqb, length, take, drop};
 ghost use Rattle.law.specs.Columns.{blank, width, code_field};
 ghost use Rattle.law.specs.Players.{points_field};

@@ -1,4 +1,6 @@
 // The question: what a player earned before a round, and the acceleration for it. Promised: what the statement says of a question, for every input.
+#![tactic(auto)]
+
 ghost use Rattle.std.specs.Prelude.{◌≡◌, ◌&&◌, List, ◌≤◌, leb, ltb, take};
 ghost use Rattle.kit.specs.Lists.{first};
 ghost use Rattle.law.specs.Sizes.{most_accelerations};

@@ -1,4 +1,6 @@
 // The reader: the tables long enough and cleared, then the lines, and the tables cleared again after a refusal. Promised: what the statement says of a reading.
+#![tactic(auto)]
+
 ghost use Rattle.tables.specs.Lent.{before, after};
 ghost use Rattle.reader.specs.Core.{CoreReads};
 

@@ -1,5 +1,7 @@
 // The acceleration records while a file is read: five numbers each, in a lent array, so that no line copies the records of those before it. Promised: the
 // list of records that the numbers stand for.
+#![tactic(auto)]
+
 ghost use Rattle.std.specs.Prelude.{◌≡◌, ◌<◌, length, set};
 ghost use Rattle.law.specs.Sizes.{most_accelerations};
 ghost use Rattle.record_cells.specs.Cells.{record_cells, records_of};

@@ -1,5 +1,7 @@
 // A line's kind, and the records but 162 and 001: one line read as one record, by value. A line against its record's rule is refusal 7, which each
 // reader's Bad stands for; a line reader takes its numbers out of the fields' enums. Columns are given by the number of columns before them, as in `fields`.
+#![tactic(auto)]
+
 ghost use Rattle.std.specs.Prelude.{◌≡◌, [], ◌∷◌, ◌≤◌, ◌||◌, eqb, length};
 ghost use Rattle.kit.specs.Lists.{among, between, is_one_of};
 ghost use Rattle.kit.specs.Decides.{to};

@@ -1,5 +1,7 @@
 // What a result byte is: the results of games and of byes and the unknown one, which two are those of one game, and what each earns. docs/RESULTS.md shows the grid and the worths of this
 // file. The tables are made once and lent for all entries: a constant array that is read in a loop would be made anew at each turn. Promised: what the statement says of each byte.
+#![tactic(auto)]
+
 ghost use Rattle.std.specs.Prelude.{◌≡◌, List, ℕ};
 ghost use Rattle.kit.specs.Lists.{among};
 ghost use Rattle.law.specs.Players.{bye_results, held_game_results};

@@ -1,5 +1,7 @@
 // Writes the report file that stands on standard input in the writer's spelling, with CR LF, or with CR alone where the program's only word is `--cr`.
 // Standard error has one line: `accepted`, the line of a refusal, or what could not be read or written, or was asked.
+#![tactic(auto)]
+
 use libc::{STDERR_FILENO, STDIN_FILENO};
 use listed::Printed;
 use types::{CR_ALONE, CR_LF};

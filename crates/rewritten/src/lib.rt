@@ -1,5 +1,7 @@
 // A file in the writer's spelling: the file is read into tables of the listed sizes, and what was read is written; from a descriptor, and to standard
 // output.
+#![tactic(auto)]
+
 ghost use Rattle.io.specs.Counts.{IsPrefixLen};
 ghost use Rattle.listed.specs.Printed.{Says};
 ghost use Rattle.law.specs.Calls.{end_of};

@@ -3,6 +3,8 @@
 // many hold the mark that all held before. Rows of standard input make files, as `drafts` says; this program's own row is
 //
 //     !SHORT NAME  a reading of the file that was made; SHORT is the table that is a cell short, 0 where all are longer, 11 where all are as listed
+#![tactic(auto)]
+
 ghost use Rattle.std.specs.Prelude.{◌≤◌};
 
 use drafts::{Draft, MARK, ROOM};

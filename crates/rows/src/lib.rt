@@ -1,5 +1,7 @@
 // A 001 line, by value: its player's numbers, its kept columns and its rounds. A line against its rule is refusal 7: Slot's and Letter's Bad; Slots and Row
 // with good false.
+#![tactic(auto)]
+
 ghost use Rattle.std.specs.Prelude.{◌≡◌, true, cond, not, ◌&&◌, [], ◌∷◌, ◌++◌, ℕ, ◌+◌, ◌-◌, ◌≤◌, ◌<◌, length, replicate};
 ghost use Rattle.kit.specs.Lists.{all, among};
 ghost use Rattle.kit.specs.Decides.{to};

@@ -1,4 +1,6 @@
 // The run over the lines of a file: each line is passed over, stored or refused. Promised: the run over the statement's lines, and where it stops.
+#![tactic(auto)]
+
 ghost use Rattle.std.specs.Prelude.{◌≡◌, true, false, ℕ, ◌+◌, ◌≤◌, length};
 ghost use Rattle.law.specs.Sizes.{most_file};
 ghost use Rattle.kit.specs.Lists.{all};

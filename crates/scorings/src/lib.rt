@@ -1,5 +1,7 @@
 // A 162 line, by value: the values of W D L A P X that it gives, and of those that it does not the defaults, or for P and X the event's own W and D. A line against its rule is refusal 7:
 // Value's Bad; Given and Scored with good false.
+#![tactic(auto)]
+
 ghost use Rattle.std.specs.Prelude.{◌≡◌, true, cond, List, [], ◌∷◌, ℕ, ◌≤◌, ◌<◌};
 ghost use Rattle.std.proofs.Math.Option.{some};
 ghost use Rattle.kit.specs.Lists.{among};

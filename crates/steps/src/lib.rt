@@ -1,5 +1,7 @@
 // What one line of the file does: its record is read, and stored in the lent tables and the counts beside them, or the line is refused by 7, 8 or 9. Promised:
 // each step is join's, on every content of the tables.
+#![tactic(auto)]
+
 ghost use Rattle.std.specs.Prelude.{◌≡◌, ℕ, ◌+◌, ◌≤◌, ◌<◌, List, length, set};
 ghost use Rattle.types.specs.declared.Acceleration as lent;
 ghost use Rattle.law.specs.Sizes.{most_line, most_accelerations, most_text};

@@ -1,5 +1,7 @@
 // The lent tables: whether they are long enough, clearing them, and storing what a line says. Nothing else makes an index of a place, and nothing else
 // knows the order of the cells. Promised: what each lent cell holds afterwards.
+#![tactic(auto)]
+
 ghost use Rattle.std.specs.Prelude.{◌≡◌, [], ◌∷◌, ◌+◌, ◌*◌, ◌≤◌, ◌<◌, leb, length, get_or, set, take, drop};
 ghost use Rattle.std.proofs.Math.Seq.{paste};
 ghost use Rattle.law.specs.Sizes.{most_players, most_rounds, most_accelerations, most_text};

@@ -1,5 +1,7 @@
 // The kept text of a reading: whether bytes are lines that some file has kept. Promised: exactly those. A line ends with CR alone here, so that an LF after
 // it is a byte of the next line, and none that is allowed.
+#![tactic(auto)]
+
 ghost use Rattle.std.specs.Prelude.{◌≡◌, List, ℕ, ◌≤◌, length, take};
 ghost use Rattle.law.specs.Sizes.{most_text};
 ghost use Rattle.law.specs.Lawful.{KeptLine};

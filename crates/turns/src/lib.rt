@@ -1,5 +1,7 @@
 // Turns: a search looks at the entries player by player and each round by round. Here are the place and the round of a turn, and what a search answers. Promised:
 // the order is join's.
+#![tactic(auto)]
+
 ghost use Rattle.std.specs.Prelude.{◌≡◌, ◌<◌};
 ghost use Rattle.law.specs.Tables.{entry_cells};
 ghost use Rattle.join.specs.Check.{place_at, round_at};

@@ -1,29 +1,30 @@
 // The four counts that must not be taken for one another, what the public calls answer, and the sizes that the box carries, each named here once. Numbers of refusals are document 01's; an acceptance has 0
 // in number, line and round, a refusal 0 in everything else.
+#![tactic(auto)]
 
 // A player's number in the event, 1 to 9999: what an entry names its opponent by.
 #[repr(C)]
-#[derive(Drop)]
+#[derive(Clone, Copy)]
 pub struct StartNumber(pub u32);
 
 // A player's place in the tables, from 0.
 #[repr(C)]
-#[derive(Drop)]
+#[derive(Clone, Copy)]
 pub struct Place(pub u32);
 
 // A player's rank, 1 to 9999.
 #[repr(C)]
-#[derive(Drop)]
+#[derive(Clone, Copy)]
 pub struct Rank(pub u32);
 
 // A line of the file, from 1; 0 where a refusal has no line.
 #[repr(C)]
-#[derive(Drop)]
+#[derive(Clone, Copy)]
 pub struct LineNumber(pub u32);
 
 // One 250 record: points in tenths for the start numbers and rounds from first to last.
 #[repr(C)]
-#[derive(Drop)]
+#[derive(Clone, Copy)]
 pub struct Acceleration {
     pub points: u32,
     pub first_round: u32,
@@ -34,7 +35,7 @@ pub struct Acceleration {
 
 // What a reading answers: the refusal, or the counts, the bytes of kept text, the initial colour (0 if none) and the values of W D L A P X in tenths.
 #[repr(C)]
-#[derive(Drop)]
+#[derive(Clone, Copy)]
 pub struct Answer {
     pub number: u32,
     pub line: LineNumber,
@@ -49,7 +50,7 @@ pub struct Answer {
 
 // What a writing answers: the refusal, or the bytes written.
 #[repr(C)]
-#[derive(Drop)]
+#[derive(Clone, Copy)]
 pub struct Written {
     pub number: u32,
     pub line: LineNumber,
@@ -59,7 +60,7 @@ pub struct Written {
 
 // What a question answers: the refusal, or the sum earned in earlier rounds and the acceleration for the round, in tenths.
 #[repr(C)]
-#[derive(Drop)]
+#[derive(Clone, Copy)]
 pub struct Score {
     pub number: u32,
     pub line: LineNumber,

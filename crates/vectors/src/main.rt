@@ -2,6 +2,8 @@
 //
 //     !NAME        the listing of the file that was made
 //     <NAME        the listing of the file that has the name
+#![tactic(auto)]
+
 use drafts::{Draft, ROOM};
 use libc::STDIN_FILENO;
 use listed::Printed;

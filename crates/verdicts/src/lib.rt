@@ -1,4 +1,6 @@
 // What the checks found, as refusals: number, line and round, the line read from the lent list. Promised: each answers a part of join's verdict.
+#![tactic(auto)]
+
 ghost use Rattle.std.specs.Prelude.{◌≡◌, true, ℕ, ◌+◌, ◌*◌, ◌≤◌, length, get_or};
 ghost use Rattle.std.proofs.Math.Option.{Option, none};
 ghost use Rattle.kit.specs.Decides.{to};

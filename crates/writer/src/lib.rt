@@ -1,5 +1,7 @@
 // The writer: whether answer and tables are a reading, whether the output has room, and then the report file, record by record. Promised: what the statement
 // says of a writing.
+#![tactic(auto)]
+
 ghost use Rattle.std.specs.Prelude.{◌≡◌, List, ◌+◌, ◌*◌, ◌≤◌, length, take};
 ghost use Rattle.law.specs.Sizes.{most_line, most_players, most_rounds, most_text};
 ghost use Rattle.law.specs.Writing.{rounds_line};

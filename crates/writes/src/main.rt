@@ -11,6 +11,8 @@
 //                  the same with CR alone
 //
 // Part 0 changes nothing, and 0 is no table: `changes` has the others.
+#![tactic(auto)]
+
 ghost use Rattle.std.specs.Prelude.{◌≤◌};
 
 use changes::Case;
