@@ -2,11 +2,8 @@
 use mathlib.Core.Path.{◌≡◌, refl, sym, ap, subst, ◌∙◌}
 use mathlib.Core.Bool.{Bool, true, false}
 use mathlib.Core.Option.{Option, none, some}
-use mathlib.Core.List.{[], ◌∷◌}
 use Prim.Native.Nat.{ℕ}
 use native.Mathlib.Omega.{arith}
-use denote.Enum.Declared.{tag_of}
-use types.Run.{OneOf, miss}
 use Rattle.kit.specs.Decides.{to}
 use Rattle.kit.proofs.Bools.{clash}
 use Rattle.law.proofs.FieldsRead as law
@@ -14,7 +11,6 @@ use Rattle.fields.specs.declared.Number.{Number}
 use Rattle.fields.specs.declared.Number.TheVariants as number
 use Rattle.fields.specs.Said.{Said, says, refuses, or_bad_field, flag_says, Stands}
 use Rattle.fields.specs.Fields.{number_says, or_blank}
-use Rattle.fields.specs.contracts.Number.{the_type}
 
 module _ {A : Type 0} where
   pub never : {B : Type 0} {a : A} {k : ℕ} → says a ≡ refuses k → B
@@ -34,7 +30,7 @@ blanks_no_number e = absurd (let z : ◌≡◌ {A = ℕ} 0 1 = cc in omega arith
 
 -- the else of `let Number::Value(n) = r else`
 abbrev pub NotValue : Number → Type 0
-NotValue r = OneOf (1 ∷ 2 ∷ []) (tag_of the_type r)
+NotValue r = (n : ℕ) → r ≡ number.Value n → ⊥
 
 pub number-said : (o : law.Number) (n : ℕ) → or_blank o ≡ says (some n) → law.the_number o ≡ some n
 number-said (law.value m) n e = let u : m ≡ n = cc in ap some u
@@ -44,13 +40,13 @@ number-said law.bad n e = never (sym e)
 pub no_number : (o : law.Number) (r : Number) → number_says r ≡ or_blank o → NotValue r → law.the_number o ≡ none
 no_number law.none-there r e h = refl
 no_number law.bad r e h = refl
-no_number (law.value m) (number.Value n) e h = absurd (miss (1 ∷ 2 ∷ []) 0 tt h)
+no_number (law.value m) (number.Value n) e h = absurd (h n refl)
 no_number (law.value m) number.Blank e h = blanks_no_number e
 no_number (law.value m) number.Bad e h = never (sym e)
 
 -- the same of `let Number::Blank = r else`
 abbrev pub NotBlank : Number → Type 0
-NotBlank r = OneOf (0 ∷ 2 ∷ []) (tag_of the_type r)
+NotBlank r = r ≡ number.Blank → ⊥
 
 -- what each answer shows
 pub is_value : (o : law.Number) (n : ℕ) → or_blank o ≡ says (some n) → o ≡ law.value n
@@ -64,8 +60,8 @@ is_blank_lem law.none-there e = refl
 is_blank_lem law.bad e = never (sym e)
 
 pub is_bad : (o : law.Number) (r : Number) → number_says r ≡ or_blank o → NotValue r → NotBlank r → o ≡ law.bad
-is_bad o (number.Value n) e h k = absurd (miss (1 ∷ 2 ∷ []) 0 tt h)
-is_bad o number.Blank e h k = absurd (miss (0 ∷ 2 ∷ []) 1 tt k)
+is_bad o (number.Value n) e h k = absurd (h n refl)
+is_bad o number.Blank e h k = absurd (k refl)
 is_bad (law.value n) number.Bad e h k = never (sym e)
 is_bad law.none-there number.Bad e h k = never (sym e)
 is_bad law.bad number.Bad e h k = refl
@@ -80,7 +76,7 @@ pub else_itself : (o : law.Number) (r : Number) → number_says r ≡ or_blank o
 else_itself (law.value n) r e h = e
 else_itself law.bad r e h = e
 else_itself law.none-there (number.Value n) e h = blanks_no_number (sym e)
-else_itself law.none-there number.Blank e h = absurd (miss (0 ∷ 2 ∷ []) 1 tt h)
+else_itself law.none-there number.Blank e h = absurd (h refl)
 else_itself law.none-there number.Bad e h = never (sym e)
 
 -- never blank
@@ -90,7 +86,7 @@ found none n e = never (sym e)
 
 pub not_found : (o : Option ℕ) (r : Number) → number_says r ≡ or_bad_field (to some o) → NotValue r → o ≡ none
 not_found none r e h = refl
-not_found (some m) (number.Value n) e h = absurd (miss (1 ∷ 2 ∷ []) 0 tt h)
+not_found (some m) (number.Value n) e h = absurd (h n refl)
 not_found (some m) number.Blank e h = blanks_no_number e
 not_found (some m) number.Bad e h = never (sym e)
 

@@ -1,0 +1,303 @@
+#!/usr/bin/env python3
+"""Turns a crate's hand-written proofs/F/Proof.antt of an older Rattle into Invariants.antt and Answers.antt: usage: turn_proofs.py CRATE [F..]
+The names of goals and steps come from `rt check --generated --old-names`, so that what the crate stands on must be proved."""
+import json
+import os
+import re
+import shutil
+import subprocess
+import sys
+
+TOP = os.path.dirname(os.path.dirname(os.path.realpath(__file__)))
+IDENT = r"[A-Za-z_\u0370-\u03ff\u2080-\u2089][A-Za-z0-9_'\u0370-\u03ff\u2080-\u2089-]*"
+
+
+def norm(s):
+    return s.replace("_", "-")
+
+
+def names_of(crate):
+    out = f"/tmp/names-{os.path.basename(os.path.dirname(TOP))}-{crate}"
+    shutil.rmtree(out, ignore_errors=True)
+    r = subprocess.run(["rt", "check", "--generated", out, "--old-names"], cwd=os.path.join(TOP, "crates", crate), capture_output=True, text=True)
+    path = os.path.join(out, "names.json")
+    if not os.path.exists(path):
+        print((r.stdout + r.stderr)[-3000:])
+        raise SystemExit(2)
+    return json.load(open(path))
+
+
+def blocks(text):
+    """Header comment, use lines, then declarations: (comment lines, name or None, signature, unfolding lines, clause lines)."""
+    lines = text.rstrip("\n").split("\n")
+    head, uses, i = [], [], 0
+    while i < len(lines) and lines[i].startswith("--"):
+        head.append(lines[i])
+        i += 1
+    decls, comment = [], []
+    while i < len(lines):
+        l = lines[i]
+        if re.match(r"(pub )?use ", l):
+            uses.append(l)
+            i += 1
+        elif not l.strip():
+            i += 1
+        elif l.startswith("--"):
+            comment.append(l)
+            i += 1
+        else:
+            j = i + 1
+            m = re.match(r"(?:abbrev |pub |unfoldable )*(" + IDENT + r")\s*(?:\{|\(|:|$)", l)
+            name = m[1] if m else None
+            if l.startswith("module "):
+                name = None
+            while j < len(lines):
+                k = lines[j]
+                if not k.strip() or k.startswith(" ") or k.startswith("unfolding"):
+                    j += 1
+                elif name and re.match(re.escape(name) + r"(?![A-Za-z0-9_'-])", k) and not re.match(re.escape(name) + r" :", k):
+                    j += 1
+                else:
+                    break
+            body = lines[i:j]
+            while body and not body[-1].strip():
+                body.pop()
+            decls.append((comment, name, body))
+            comment = []
+            i = j
+    return head, uses, decls
+
+
+def split_decl(name, body):
+    """The signature's lines, unfolding lines, and the rest."""
+    k = 1
+    while k < len(body) and body[k].startswith(" "):
+        k += 1
+    sig = " ".join(x.strip() for x in body[:k])
+    u = k
+    while u < len(body) and body[u].startswith("unfolding"):
+        u += 1
+    return sig, body[k:u], body[u:]
+
+
+class Turner:
+    def __init__(self, crate, path, table):
+        self.crate, self.path, self.t = crate, path, table
+        self.warn = []
+        self.steps, self.fields = {}, {}
+        self.parent = {}
+        for p in table["places"]:
+            self.parent[p[0]] = p[1]
+        self.place = {p[0]: p for p in table["places"]}
+        self.arms = {p[0]: a for p, a in zip(table["places"], table["arms"]) if a}
+        self.owner = {}
+
+    def ancestors(self, at):
+        seen = []
+        while at:
+            seen.append(at)
+            at = self.parent.get(at)
+        return seen
+
+    def chain(self, text, alias, at):
+        """Rewrites V.before.before.F.g by the names of today."""
+        up = self.ancestors(at)
+        steps = {}
+        for a in up:
+            p = self.place[a]
+            steps.setdefault(norm(p[2][0]), p)
+
+        def one(m):
+            v, fields = m[1], m[2]
+            if v not in alias:
+                return m[0]
+            parts = fields.split(".")[1:]
+            while parts and parts[0] == "before":
+                parts.pop(0)
+            if not parts:
+                return "c" if m[0] == v else "c⟨" + m[0] + "⟩"
+            for a in up:
+                arm = self.arms.get(a)
+                best = None
+                for f in arm[2] if arm else []:
+                    if norm(f[1]) == norm(parts[0]) and parts[1 : 1 + len(f[2])] == f[2] and (best is None or len(f[2]) > len(best[2])):
+                        best = f
+                if best and (best[2] or a == self.owner.get(norm(parts[0]), a)):
+                    return "c." + ".".join([arm[0], best[0]] + parts[1 + len(best[2]):])
+            p = steps.get(norm(parts[0])) or steps.get(norm(re.sub("_lem$", "", parts[0])))
+            if p is not None and p[2][0]:
+                new = [p[2][1]]
+                fm = dict((a, b) for a, b in p[4])
+                rest = parts[1:]
+                if rest and rest[0] in fm:
+                    rest = [fm[rest[0]]] + rest[1:]
+                return "c." + ".".join(new + rest)
+            if parts[0] not in ("args", "requires", "ranges", "utf8", "type_inv", "type-inv", "lifetimes"):
+                self.warn.append(f"step {parts[0]} not above {at}")
+            if parts[0] == "type-inv":
+                parts[0] = "type_inv"
+            return "c." + ".".join(parts)
+
+        return re.sub(r"(?<![A-Za-z0-9_'.-])(" + IDENT + r")((?:\.[A-Za-z0-9_'-]+)*)", one, text)
+
+    def answer(self, new, at, clauses, comment, unfold):
+        """clauses: the text of the definition."""
+        text = "\n".join(clauses)
+        m = re.match(IDENT + r"((?: (?:" + IDENT + r"|_))*) =(.*)\Z", text, re.S)
+        if not m:
+            self.warn.append(f"{new}: no plain clause")
+            return "\n".join(comment + ["-- TODO", text])
+        args = m[1].split()
+        c = args[0] if args else "c"
+        body = m[2]
+        alias = {c}
+        # let l = c.before.before in
+        while True:
+            lm = re.search(r"let (" + IDENT + r") = (" + IDENT + r")((?:\.before)*) in[ \n]*", body)
+            if not lm or lm[2] not in alias:
+                break
+            alias.add(lm[1])
+            body = body[: lm.start()] + body[lm.end():]
+        body = self.chain(body, alias, at)
+        body = re.sub(r"\(not-(true|false) (?:_|" + IDENT + r") (c\.[A-Za-z0-9_'-]+)\.\1-raw\)", r"\2.\1", body)
+        body = re.sub(r"not-(true|false) (?:_|" + IDENT + r") (c\.[A-Za-z0-9_'-]+)\.\1-raw", r"\2.\1", body)
+        body = re.sub(r"(c\.in_default[A-Za-z0-9_'-]*)\.in_default[A-Za-z0-9_'-]*-own\.keys\d+", lambda m: self.no_other(m, at), body)
+        if re.fullmatch(r"\s*(search rules|tt|\(search rules, tt\)|refl|omega arith|search \(rules, counting\))\s*", body):
+            return None
+        body = body.rstrip()
+        if body.strip() and "\n" in body and not body.startswith("\n"):
+            pass
+        if "⟨" in body:
+            self.warn.append(f"{new}: a whole record is passed on")
+        extra = ["unfolding" + u[len("unfolding"):] for u in unfold]
+        body = body.lstrip(" ") if not body.startswith("\n") else body
+        if body.startswith("\n"):
+            lead = body.lstrip("\n")
+            ind = len(lead) - len(lead.lstrip(" "))
+            if ind == 0:
+                body = "\n    " + lead
+        return "\n".join(comment + [f"pub {new} : goal.{new}"] + extra + [f"{new} c = {body}" if not body.startswith("\n") else f"{new} c ={body}"])
+
+    def no_other(self, m, at):
+        step = m[1][2:]
+        for a in self.ancestors(at):
+            if self.arms.get(a) and self.arms[a][0] == step:
+                mine = self.place[a]
+                while mine[2][0] != "match" and self.parent.get(mine[0]):
+                    mine = self.place[self.parent[mine[0]]]
+                kin = [p for p in self.t["places"] if p[1] == mine[1] and norm(p[2][0]) == norm(mine[2][0]) and p[2][1].startswith("in-")]
+                if len(kin) == 1:
+                    return m[1] + ".not-" + kin[0][2][1][3:]
+                self.warn.append(f"{m[0]}: arms {[k[2] for k in kin]}")
+        return m[0]
+
+    def invariant(self, kind, loop, body_lines, comment):
+        loops = {norm(l[0][0]): (l[0][1], l[1], ch) for l, ch in zip(self.t["loops"], self.t["changed"])}
+        if norm(loop) not in loops:
+            self.warn.append(f"loop {loop} is not known: {list(loops)}")
+            return None
+        new, vars_, changed = loops[norm(loop)]
+        text = "\n".join(body_lines)
+        m = re.match(IDENT + r"((?: (?:" + IDENT + r"|_))*) =(.*)\Z", text, re.S)
+        if not m:
+            self.warn.append(f"{kind}-{loop}: no plain clause")
+            return None
+        args = m[1].split()
+        want = []
+        for v, ch in zip(vars_, changed):
+            if ch:
+                want.append(f"l.initial.{v}")
+            want.append(f"l.{v}")
+        if len(want) != len(args):
+            self.warn.append(f"{kind}-{loop}: {len(args)} parameters, {len(want)} wanted: {args} {want}")
+        sub = dict(zip(args, want))
+        first = [a for a in args if a.endswith("₀")]
+        now = [a for a in args if not a.endswith("₀")]
+        which = [v for v, ch in zip(vars_, changed) if ch]
+        if len(first) == len(which) and len(now) == len(vars_):
+            sub = dict(zip(now, [f"l.{v}" for v in vars_])) | dict(zip(first, [f"l.initial.{v}" for v in which]))
+        elif any(changed):
+            self.warn.append(f"{kind}-{loop}: order of parameters: {args} {vars_} {changed}")
+        sub.pop("_", None)
+        body = re.sub(r"(?<![A-Za-z0-9_'.-])(" + IDENT + r")", lambda k: sub.get(k[1], k[1]), m[2])
+        body = body.rstrip()
+        name = f"{kind}-{new}"
+        return "\n".join(comment + [f"abbrev pub {name} : goal.{name}", f"{name} l ={body}"])
+
+    def turn(self):
+        folder = os.path.join(TOP, "crates", self.crate, "proofs", *self.path.split("."))
+        source = os.path.join(folder, "Proof.antt")
+        if not os.path.exists(source):
+            return
+        head, uses, decls = blocks(open(source, encoding="utf-8").read())
+        needs = {}
+        for i, (old, new) in enumerate(self.t["needs"]):
+            at = self.t["asked_at"][i][0] if i < len(self.t["asked_at"]) else None
+            needs[norm(old)] = (new, at)
+        invs, answers, helpers = [], [], []
+        for comment, name, body in decls:
+            if name is None:
+                helpers.append("\n".join(comment + body))
+                continue
+            sig, unfold, clauses = split_decl(name, body)
+            t = re.search(r": (.*)$", sig)
+            typ = t[1] if t else ""
+            m = re.match(r"tie\.(invariant|decreases)-(\S+)", typ)
+            if m:
+                r = self.invariant(m[1], m[2], clauses, comment)
+                if r:
+                    invs.append(r)
+                continue
+            m = re.match(r"tie\.Need-(\S+)", typ)
+            if m:
+                old = norm(m[1])
+                hit = needs.get(old) or needs.get(re.sub(r"^overflow-", "", old))
+                if not hit:
+                    text = "\n".join(clauses)
+                    if not re.search(r"=\s*(search rules|tt)\s*$", text):
+                        self.warn.append(f"need {m[1]} is not known: {list(needs)}")
+                        helpers.append("\n".join(["-- TODO need " + m[1]] + comment + body))
+                    continue
+                r = self.answer(hit[0], hit[1], clauses, comment, unfold)
+                if r:
+                    answers.append(r)
+                continue
+            if re.match(r"pub (\S+)[_-]spec :", sig) and "statement" in sig:
+                continue
+            if "tie." in sig or "lts." in sig:
+                self.warn.append(f"helper {name} speaks of the old records: {sig[:200]}")
+            helpers.append("\n".join(comment + body))
+        module = f"Rattle.{self.crate}.proofs.{self.path}"
+        keep = [u for u in uses if not re.search(r"\.(Tie|Statement|Lts|Met|Code)( as \w+|\.\{[^}]*\})?$", u)]
+        title = head
+        if invs:
+            with open(os.path.join(folder, "Invariants.antt"), "w", encoding="utf-8") as f:
+                f.write("\n".join(title + keep + [f"use {module}.Given as goal", ""]) + "\n" + "\n\n".join(invs) + "\n")
+        if answers:
+            with open(os.path.join(folder, "Answers.antt"), "w", encoding="utf-8") as f:
+                f.write("\n".join((title if not invs else []) + keep + [f"use {module}.Goals as goal", ""]) + "\n" + "\n\n".join(helpers + answers) + "\n")
+        elif helpers:
+            self.warn.append("helpers with no answer: left out")
+        os.makedirs(f"/tmp/old-proofs/{self.crate}", exist_ok=True)
+        shutil.move(source, f"/tmp/old-proofs/{self.crate}/{self.path}.antt")
+        if not os.listdir(folder):
+            os.rmdir(folder)
+        for w in self.warn:
+            print(f"{self.crate}::{self.path}: {w}")
+
+
+def main(argv):
+    crate, only = argv[0], argv[1:]
+    table = names_of(crate)
+    for key, t in table.items():
+        m = re.fullmatch(rf"Rattle-{crate}-proofs\.(.*)\.Lts", key)
+        if m and (not only or m[1] in only):
+            Turner(crate, m[1], t).turn()
+    left = [os.path.relpath(os.path.join(d, f), TOP) for d, _, fs in os.walk(os.path.join(TOP, "crates", crate, "proofs")) for f in fs if f == "Proof.antt"]
+    for l in left:
+        print("left: " + l)
+    return 0
+
+
+if __name__ == "__main__":
+    raise SystemExit(main(sys.argv[1:]))
