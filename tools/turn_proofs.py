@@ -203,21 +203,10 @@ class Turner:
             self.warn.append(f"{kind}-{loop}: no plain clause")
             return None
         args = m[1].split()
-        want = []
-        for v, ch in zip(vars_, changed):
-            if ch:
-                want.append(f"l.initial.{v}")
-            want.append(f"l.{v}")
+        want = [f"l.initial.{v}" if ch else f"l.{v}" for v, ch in zip(vars_, changed)] + [f"l.{v}" for v, ch in zip(vars_, changed) if ch]
         if len(want) != len(args):
             self.warn.append(f"{kind}-{loop}: {len(args)} parameters, {len(want)} wanted: {args} {want}")
         sub = dict(zip(args, want))
-        first = [a for a in args if a.endswith("₀")]
-        now = [a for a in args if not a.endswith("₀")]
-        which = [v for v, ch in zip(vars_, changed) if ch]
-        if len(first) == len(which) and len(now) == len(vars_):
-            sub = dict(zip(now, [f"l.{v}" for v in vars_])) | dict(zip(first, [f"l.initial.{v}" for v in which]))
-        elif any(changed):
-            self.warn.append(f"{kind}-{loop}: order of parameters: {args} {vars_} {changed}")
         sub.pop("_", None)
         body = re.sub(r"(?<![A-Za-z0-9_'.-])(" + IDENT + r")", lambda k: sub.get(k[1], k[1]), m[2])
         body = body.rstrip()

@@ -97,9 +97,9 @@ module _ (R : ℕ) (rows : List PlayerLine) (small : R ≤ most_rounds) (well : 
   made_at : (p : ℕ) → p < length rows → get_or made p no_player ≡ player_of R (get_or rows p no_line)
   made_at p l = map_at (player_of R) no_line no_player rows p l
 
-  entry_in : (p r : ℕ) → p < length rows → 1 ≤ r → r ≤ R → entry_at p r ≡ normal (slot_at r (get_or rows p no_line))
+  entry_in_lem : (p r : ℕ) → p < length rows → 1 ≤ r → r ≤ R → entry_at p r ≡ normal (slot_at r (get_or rows p no_line))
   unfolding entry_at
-  entry_in p r l a b =
+  entry_in_lem p r l a b =
       let q : PlayerLine = get_or rows p no_line in
       let w : WellLine q = all_of_at WellLine no_line rows well p l in
       let n = w.slots in
@@ -142,9 +142,9 @@ module _ (R : ℕ) (rows : List PlayerLine) (small : R ≤ most_rounds) (well : 
         go : Dec (p < length rows) → Dec (r ≤ R) → (v : Bool) → s.used ≡ v
             → cond (ltb p (length rows) && leb r R && eqb (part (raw_cell s)) 0) (part the_bye) (part (raw_cell s)) ≡ part (entry_at p r)
         go (yes l) (yes m) true q =
-            rw (lt-ltb p (length rows) l, le-leb r R m, raw true q) (used l (ℕ_discrete (part (normal s)) 0) ∙ ap (λ (x : Slot). part (normal x)) e ∙ ap part (sym (entry_in p r l a m)))
+            rw (lt-ltb p (length rows) l, le-leb r R m, raw true q) (used l (ℕ_discrete (part (normal s)) 0) ∙ ap (λ (x : Slot). part (normal x)) e ∙ ap part (sym (entry_in_lem p r l a m)))
         go (yes l) (yes m) false q =
-            rw (lt-ltb p (length rows) l, le-leb r R m, raw false q, eq-eqb (part no_entry) 0 zero-none) (ap part (sym (normal-blank s (well_slot l) q)) ∙ ap (λ (x : Slot). part (normal x)) e ∙ ap part (sym (entry_in p r l a m)))
+            rw (lt-ltb p (length rows) l, le-leb r R m, raw false q, eq-eqb (part no_entry) 0 zero-none) (ap part (sym (normal-blank s (well_slot l) q)) ∙ ap (λ (x : Slot). part (normal x)) e ∙ ap part (sym (entry_in_lem p r l a m)))
         go (yes l) (no m) v q =
             let z : r ≤ R → ⊥ = m in
             let f : s.used ≡ false = ap (λ (x : Slot). x.used) e ∙ past p r l (omega arith) b in

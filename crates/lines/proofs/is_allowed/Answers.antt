@@ -3,11 +3,7 @@ use mathlib.Core.Path.{refl}
 use mathlib.Core.Bool.{and-true}
 use native.Mathlib.Omega.{arith}
 use borrow.Author.Tests.{le-leb}
-use Rattle.lines.proofs.is_allowed.Statement.{statement}
-use Rattle.lines.proofs.is_allowed.Tie as tie
+use Rattle.lines.proofs.is_allowed.Goals as goal
 
-returns : tie.Need-returns
+pub returns : goal.returns
 returns c = rw (le-leb c.args.c 255 (omega arith), and-true) refl
-
-pub is_allowed_spec : {M : Type 1} → statement M
-is_allowed_spec = tie.close (tie.spec returns)
