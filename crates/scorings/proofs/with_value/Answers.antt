@@ -1,0 +1,9 @@
+-- `scorings::with_value` meets its contract. Assumes nothing.
+use borrow.Author.Rules.{rules}
+use Rattle.scorings.proofs.ScoringSlots.{with_value-are}
+use Rattle.scorings.proofs.with_value.Goals as goal
+
+pub returns : goal.returns
+returns c =
+    let a = c.args in
+    with_value-are a.t1 a.t2 a.place a.points c.follower_of-follower.ensures.0 c.value_or.ensures
