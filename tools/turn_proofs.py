@@ -91,6 +91,8 @@ class Turner:
         self.place = {p[0]: p for p in table["places"]}
         self.arms = {p[0]: a for p, a in zip(table["places"], table["arms"]) if a}
         self.owner = {}
+        self.backs = set()
+        self.loop_vars = {v for l in table["loops"] for v in l[1]}
 
     def ancestors(self, at):
         seen = []
@@ -124,6 +126,14 @@ class Turner:
                         best = f
                 if best and (best[2] or a == self.owner.get(norm(parts[0]), a)):
                     return "c." + ".".join([arm[0], best[0]] + parts[1 + len(best[2]):])
+            parts = [{"pre": "requires", "post": "ensures"}.get(x, x) if i == 0 or x == "post" else x for i, x in enumerate(parts)]
+            if len(parts) > 1 and parts[0] in ("args", "ranges"):
+                for a, b in self.t["args"]:
+                    if a == f".{parts[0]} .{parts[1]}":
+                        parts[1] = b.split(".")[-1]
+                        break
+            if len(parts) > 1 and parts[1] == "auto" and (len(parts) == 2 or parts[2] not in self.loop_vars) and "kept" in self.loop_vars and "loop" in parts[0]:
+                parts[1] = "kept"
             p = steps.get(norm(parts[0])) or steps.get(norm(re.sub("_lem$", "", parts[0])))
             if p is not None and p[2][0]:
                 new = [p[2][1]]
@@ -152,8 +162,15 @@ class Turner:
         body = m[2]
         alias = {c}
         # let l = c.before.before in
+        for _ in range(40):
+            was = body
+            for b in self.backs:
+                body = re.sub(r"\(" + re.escape(b) + r" " + re.escape(c) + r"(?:\.before)*\)", c, body)
+                body = re.sub(r"(?<![A-Za-z0-9_'.-])" + re.escape(b) + r" " + re.escape(c) + r"(?:\.before)*(?![A-Za-z0-9_'.-])", c, body)
+            if body == was:
+                break
         while True:
-            lm = re.search(r"let (" + IDENT + r") = (" + IDENT + r")((?:\.before)*) in[ \n]*", body)
+            lm = re.search(r"let (" + IDENT + r")(?: : [^=]*?)? = (" + IDENT + r")((?:\.before)*) in[ \n]*", body)
             if not lm or lm[2] not in alias:
                 break
             alias.add(lm[1])
@@ -225,6 +242,11 @@ class Turner:
             needs[norm(old)] = (new, at)
         invs, answers, helpers = [], [], []
         for comment, name, body in decls:
+            if name:
+                sig, unfold, clauses = split_decl(name, body)
+                if re.search(r": (?:tie|lts)\.\S+ → (?:tie|lts)\.\S+$", sig) and re.fullmatch(re.escape(name) + r" (\w+) =\s+\1(\.before)*\s*", "\n".join(clauses)):
+                    self.backs.add(name)
+        for comment, name, body in decls:
             if name is None:
                 helpers.append("\n".join(comment + body))
                 continue
@@ -252,6 +274,9 @@ class Turner:
                     answers.append(r)
                 continue
             if re.match(r"pub (\S+)[_-]spec :", sig) and "statement" in sig:
+                continue
+            bt = "\n".join(clauses)
+            if re.search(r": (?:tie|lts)\.\S+ → (?:tie|lts)\.\S+$", sig) and re.fullmatch(re.escape(name) + r" (\w+) =\s+\1(\.before)*\s*", bt):
                 continue
             if "tie." in sig or "lts." in sig:
                 self.warn.append(f"helper {name} speaks of the old records: {sig[:200]}")

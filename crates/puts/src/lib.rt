@@ -14,7 +14,7 @@ ghost use Rattle.puts.specs.Ends.{end_text, end_wide, kept_text, relined};
 use types::{CR, LF};
 
 // What ends a line.
-#[derive(Drop)]
+#[derive(Clone, Copy)]
 pub enum Terminator {
     CrLf,
     Cr,

@@ -70,12 +70,12 @@ module _ (given : List (ℕ × ℕ)) (p : ℕ) where
       refl refl refl refl
 
 module _ (values : List ℕ) (seen : List Bool) (place points : ℕ) {f x : ℕ} (f-is : f ≡ follower_of place) (x-is : x ≡ cond (get_or seen f false) (get_or values f 0) points) where
-  with_value : set (set values f x) place points ≡ with_value values seen place points
-  with_value = ap (λ (y : ℕ). set (set values f y) place points) x-is ∙ ap (λ (g : ℕ). set (set values g (cond (get_or seen g false) (get_or values g 0) points)) place points) f-is
+  with_value_lem : set (set values f x) place points ≡ with_value values seen place points
+  with_value_lem = ap (λ (y : ℕ). set (set values f y) place points) x-is ∙ ap (λ (g : ℕ). set (set values g (cond (get_or seen g false) (get_or values g 0) points)) place points) f-is
 
   pub with_value-are : (given : List (ℕ × ℕ)) (letter : ℕ) → among letter letters ≡ true → place ≡ letter_place letter → values ≡ values_of given → seen ≡ seen_in given
       → set (set values f x) place points ≡ values_of ((letter, points) ∷ given)
-  with_value-are given letter h p v s = with_value ∙ (λ i. with_value (v i) (s i) (p i) points) ∙ values-set given points letter h
+  with_value-are given letter h p v s = with_value_lem ∙ (λ i. with_value (v i) (s i) (p i) points) ∙ values-set given points letter h
 
 -- ---- one slot
 pub value_by : (row : List ℕ) (i c : ℕ) (points : Option ℕ) (v : Bool) → c ≡ get_or row i blank → points_of (cells row (i + 1) 4) ≡ points → ltb (letter_place c) 6 ≡ v

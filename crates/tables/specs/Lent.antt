@@ -1,11 +1,11 @@
 -- The nine lent tables as a clause names them: in a `requires`, and at entry and at exit in an `ensures`.
 use Rattle.std.specs.Prelude.{List, ℕ}
-use Rattle.std.specs.Borrow.{Bor}
+use Rattle.std.specs.Borrow.{MutBor}
 use denote.Triple.Both.{Both}
 use Rattle.join.specs.Store.{Nine}
 
 abbrev Cells : Type 0
-Cells = Bor (List ℕ)
+Cells = MutBor (List ℕ)
 
 abbrev Lent : Type 0
 Lent = Both Cells Cells

@@ -7,20 +7,17 @@ use Rattle.results.proofs.fits.Goals as goal
 
 pub returns-then-own-ge-GAMES : goal.returns-then-own-ge-GAMES
 returns-then-own-ge-GAMES c =
-    let start : tie.Start = c⟨c.before.before.before⟩ in
-    let own = c.wide-own.ensures ∙ start.requires.1.each start.args.a (search rules) in
+    let own = c.wide-own.ensures ∙ c.requires.1.each c.args.a (search rules) in
     own_unlisted _ _ (omega (arith, c.if-own-ge-GAMES.true, own))
 
 pub returns-then-theirs-ge-GAMES : goal.returns-then-theirs-ge-GAMES
 returns-then-theirs-ge-GAMES c =
-    let start : tie.Start = c⟨c.before.before.before.before.before.before⟩ in
-    let own = c.wide-own.ensures ∙ start.requires.1.each start.args.a (search rules) in
-    let theirs = c.wide-theirs.ensures ∙ start.requires.1.each start.args.b (search rules) in
+    let own = c.wide-own.ensures ∙ c.requires.1.each c.args.a (search rules) in
+    let theirs = c.wide-theirs.ensures ∙ c.requires.1.each c.args.b (search rules) in
     theirs_unlisted _ _ (omega (arith, c.if-own-ge-GAMES.false, own)) (omega (arith, c.if-theirs-ge-GAMES.true, theirs))
 
 pub returns : goal.returns
 returns c =
-    let start : tie.Start = c⟨c.before.before.before.before.before.before.before⟩ in
-    let own = c.wide-own.ensures ∙ start.requires.1.each start.args.a (search rules) in
-    let theirs = c.wide-theirs.ensures ∙ start.requires.1.each start.args.b (search rules) in
-    both_listed start.requires.0 _ _ own theirs c.if-own-ge-GAMES.false c.if-theirs-ge-GAMES.false
+    let own = c.wide-own.ensures ∙ c.requires.1.each c.args.a (search rules) in
+    let theirs = c.wide-theirs.ensures ∙ c.requires.1.each c.args.b (search rules) in
+    both_listed c.requires.0 _ _ own theirs c.if-own-ge-GAMES.false c.if-theirs-ge-GAMES.false

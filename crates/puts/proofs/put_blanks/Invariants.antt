@@ -1,0 +1,13 @@
+-- `puts::put_blanks` meets its contract. Assumes nothing.
+use Prim.Native.Nat.{◌-◌}
+use native.Mathlib.Omega.{arith}
+use borrow.Author.Rules.{rules}
+use Rattle.law.specs.Columns.{blank}
+use Rattle.puts.proofs.Turns.{Run, run_none, run-next, run-all}
+use Rattle.puts.proofs.put_blanks.Given as goal
+
+abbrev pub invariant-loop-i : goal.invariant-loop-i
+invariant-loop-i l = Run blank l.n l.at l.initial.out l.out l.i
+
+abbrev pub decreases-loop-i : goal.decreases-loop-i
+decreases-loop-i l = l.n - l.i
