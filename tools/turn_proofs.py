@@ -176,6 +176,9 @@ class Turner:
             alias.add(lm[1])
             body = body[: lm.start()] + body[lm.end():]
         body = self.chain(body, alias, at)
+        fields = {a.split(".")[-1]: b.split(".")[-1] for a, b in self.t["args"] if a.startswith(".args ")}
+        for x in re.findall(r"let (" + IDENT + r") = c\.args in", body):
+            body = re.sub(r"(?<![A-Za-z0-9_'.-])" + re.escape(x) + r"\.([A-Za-z0-9_'-]+)", lambda m: x + "." + fields.get(m[1], m[1]), body)
         body = re.sub(r"\(not-(true|false) (?:_|" + IDENT + r") (c\.[A-Za-z0-9_'-]+)\.\1-raw\)", r"\2.\1", body)
         body = re.sub(r"not-(true|false) (?:_|" + IDENT + r") (c\.[A-Za-z0-9_'-]+)\.\1-raw", r"\2.\1", body)
         body = re.sub(r"(c\.in_default[A-Za-z0-9_'-]*)\.in_default[A-Za-z0-9_'-]*-own\.keys\d+", lambda m: self.no_other(m, at), body)

@@ -4,4 +4,4 @@ use Rattle.lent_records.proofs.fill.Goals as goal
 
 pub loop-i-preserved : goal.loop-i-preserved
 loop-i-preserved c =
-    (omega arith, rw (c.loop-i.invariant.1, add-one) (merged_next _ c.loop-i.i c.args.all c.args.records.now (let h = c.well_formed in let g = c.args.all in ?) (omega arith)))
+    (omega arith, rw (c.loop-i.invariant.1, add-one) (merged_next _ c.loop-i.i c.args.all c.args.records.now (let h = c.well_formed.1.0 in ?) (omega arith)))

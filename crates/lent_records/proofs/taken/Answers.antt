@@ -4,4 +4,4 @@ use Rattle.lent_records.proofs.taken.Goals as goal
 
 pub loop-i-preserved : goal.loop-i-preserved
 loop-i-preserved c =
-    (omega arith, rw (c.loop-i.invariant.1, add-one) (merged_next _ c.loop-i.i c.args.records.now c.args.blank (omega arith) (let h = c.well_formed in ?)))
+    (omega arith, rw (c.loop-i.invariant.1, add-one) (merged_next _ c.loop-i.i c.args.records.now c.args.blank (omega arith) (let h = c.well_formed.1.0 in ?)))

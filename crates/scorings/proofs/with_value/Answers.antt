@@ -6,4 +6,4 @@ use Rattle.scorings.proofs.with_value.Goals as goal
 pub returns : goal.returns
 returns c =
     let a = c.args in
-    with_value-are a.t1 a.t2 a.place a.points c.follower_of-follower.ensures.0 c.value_or.ensures
+    with_value-are a.values a.seen a.place a.points c.follower_of-follower.ensures.0 c.value_or.ensures
