@@ -27,6 +27,50 @@ def names_of(crate):
     return json.load(open(path))
 
 
+def contracts():
+    """crate::function: the names of its requires and of its ensures, None for one without a name."""
+    found = {}
+    for c in os.listdir(os.path.join(TOP, "crates")):
+        src = os.path.join(TOP, "crates", c, "src")
+        for d, _, fs in os.walk(src):
+            for f in fs:
+                last = None
+                for l in open(os.path.join(d, f), encoding="utf-8"):
+                    m = re.match(r"\s*(?:pub )?(?:const )?(?:unsafe )?(?:extern \"C\" )?fn (\w+)", l)
+                    if m:
+                        last = (c, m[1])
+                        found[last] = ([], [])
+                    m = re.match(r"\s*(requires|ensures)( \w+)? \{", l)
+                    if m and last:
+                        found[last][m[1] == "ensures"].append((m[2] or "").strip() or None)
+    return found
+
+
+CONTRACTS = contracts()
+
+
+def named(crate, fn, kind):
+    names = CONTRACTS.get((crate, fn), ([], []))[kind]
+    return names if len(names) > 1 else []
+
+
+def top_parts(text):
+    """(a, b) at the top: its parts, or None."""
+    t = text.strip()
+    if not (t.startswith("(") and t.endswith(")")):
+        return None
+    parts, deep, last = [], 0, 1
+    for i, ch in enumerate(t):
+        deep += (ch in "([{") - (ch in ")]}")
+        if deep == 0 and i < len(t) - 1:
+            return None
+        if deep == 1 and ch == ",":
+            parts.append(t[last:i])
+            last = i + 1
+    parts.append(t[last:-1])
+    return [p.strip() for p in parts]
+
+
 def blocks(text):
     """Header comment, use lines, then declarations: (comment lines, name or None, signature, unfolding lines, clause lines)."""
     lines = text.rstrip("\n").split("\n")
@@ -92,6 +136,8 @@ class Turner:
         self.arms = {p[0]: a for p, a in zip(table["places"], table["arms"]) if a}
         self.owner = {}
         self.backs = set()
+        self.own_requires = named(crate, path.split(".")[-1].lstrip("+"), 0)
+        self.own_ensures = named(crate, path.split(".")[-1].lstrip("+"), 1)
         self.loop_vars = {v for l in table["loops"] for v in l[1]}
 
     def ancestors(self, at):
@@ -135,10 +181,16 @@ class Turner:
             if len(parts) > 1 and parts[1] == "auto" and (len(parts) == 2 or parts[2] not in self.loop_vars) and "kept" in self.loop_vars and "loop" in parts[0]:
                 parts[1] = "kept"
             p = steps.get(norm(parts[0])) or steps.get(norm(re.sub("_lem$", "", parts[0])))
+            if parts[0] == "requires" and len(parts) > 1 and parts[1].isdigit() and self.own_requires:
+                parts[1] = self.own_requires[int(parts[1])]
             if p is not None and p[2][0]:
                 new = [p[2][1]]
                 fm = dict((a, b) for a, b in p[4])
                 rest = parts[1:]
+                if p[3] and len(rest) > 1 and rest[0] == "ensures" and rest[1].isdigit():
+                    en = named(*[p[3].split("::")[0], p[3].split("::")[-1]], 1)
+                    if en:
+                        rest = [rest[0], en[int(rest[1])]] + rest[2:]
                 if rest and rest[0] in fm:
                     rest = [fm[rest[0]]] + rest[1:]
                 return "c." + ".".join(new + rest)
@@ -179,6 +231,24 @@ class Turner:
         fields = {a.split(".")[-1]: b.split(".")[-1] for a, b in self.t["args"] if a.startswith(".args ")}
         for x in re.findall(r"let (" + IDENT + r") = c\.args in", body):
             body = re.sub(r"(?<![A-Za-z0-9_'.-])" + re.escape(x) + r"\.([A-Za-z0-9_'-]+)", lambda m: x + "." + fields.get(m[1], m[1]), body)
+        if self.own_requires:
+            for x in re.findall(r"let (" + IDENT + r") = c\.requires in", body):
+                body = re.sub(r"(?<![A-Za-z0-9_'.-])" + re.escape(x) + r"\.(\d+)", lambda m: x + "." + self.own_requires[int(m[1])], body)
+        asks = []
+        m2 = re.match(r"(.*?)-requires(-.*)?$", self.old_need)
+        if m2:
+            for full in self.t["params"]:
+                if norm(full.split("::")[-1]) == norm(m2[1]):
+                    asks = named(full.split("::")[0], full.split("::")[-1], 0)
+        if self.old_need.startswith("returns"):
+            asks = self.own_ensures
+        if asks:
+            m3 = re.match(r"((?:\s*let .*? in(?=\s))*)\s*(\(.*\))\s*$", body, re.S)
+            parts = top_parts(m3[2]) if m3 else None
+            if parts and len(parts) == len(asks):
+                body = m3[1] + ("\n    " if "\n" in m3[1] else " ") + "record { " + "; ".join(f"{a} = {b}" for a, b in zip(asks, parts)) + " }"
+            else:
+                self.warn.append(f"{new}: wants a record of {asks}")
         body = re.sub(r"\(not-(true|false) (?:_|" + IDENT + r") (c\.[A-Za-z0-9_'-]+)\.\1-raw\)", r"\2.\1", body)
         body = re.sub(r"not-(true|false) (?:_|" + IDENT + r") (c\.[A-Za-z0-9_'-]+)\.\1-raw", r"\2.\1", body)
         body = re.sub(r"(c\.in_default[A-Za-z0-9_'-]*)\.in_default[A-Za-z0-9_'-]*-own\.keys\d+", lambda m: self.no_other(m, at), body)
@@ -203,7 +273,7 @@ class Turner:
         for a in self.ancestors(at):
             if self.arms.get(a) and self.arms[a][0] == step:
                 mine = self.place[a]
-                while mine[2][0] != "match" and self.parent.get(mine[0]):
+                while not re.match(r"match\d*$", mine[2][0]) and self.parent.get(mine[0]):
                     mine = self.place[self.parent[mine[0]]]
                 kin = [p for p in self.t["places"] if p[1] == mine[1] and norm(p[2][0]) == norm(mine[2][0]) and p[2][1].startswith("in-")]
                 if len(kin) == 1:
@@ -272,6 +342,7 @@ class Turner:
                         self.warn.append(f"need {m[1]} is not known: {list(needs)}")
                         helpers.append("\n".join(["-- TODO need " + m[1]] + comment + body))
                     continue
+                self.old_need = re.sub(r"^overflow-", "", old)
                 r = self.answer(hit[0], hit[1], clauses, comment, unfold)
                 if r:
                     answers.append(r)

@@ -32,7 +32,7 @@ pub fn is_bye(id: StartNumber, colour: u8, res: u8) -> bool
 }
 
 // What is asked of each entry: a bye or a game, the opponent's entry names this player, the two results fit, one U a round.
-#[derive(Drop)]
+#[derive(Clone, Copy)]
 pub enum LawKind {
     ByeOrGame,
     Mutual,

@@ -26,7 +26,7 @@ pub const REPEATED: usize = 9;
 
 // Kept beside the tables: how many players, acceleration records and bytes of text there are, which text codes stood, and what 142, 152 and 162 said. The
 // records themselves are numbers in an array that is lent.
-#[derive(Drop)]
+#[derive(Clone, Copy)]
 pub struct Counts {
     pub players: usize,
     pub accelerations: usize,
@@ -40,7 +40,7 @@ pub struct Counts {
 }
 
 // The refusal of a line, or 0 and the counts after it.
-#[derive(Drop)]
+#[derive(Clone, Copy)]
 pub struct Stepped {
     pub fault: u32,
     pub counts: Counts,

@@ -9,22 +9,22 @@ ghost use Rattle.join.specs.Check.{place_at, round_at};
 use types::{MOST_ROUNDS, Place};
 
 // A turn of a search, from 0. It is no place, and which cell it looks at tables alone knows.
-#[derive(Drop)]
+#[derive(Clone, Copy)]
 pub struct Turn(pub usize);
 
 // An acceleration record's number in file order, from 0.
-#[derive(Drop)]
+#[derive(Clone, Copy)]
 pub struct RecordNumber(pub usize);
 
 // The turn that a search found.
-#[derive(Drop)]
+#[derive(Clone, Copy)]
 pub enum FoundTurn {
     At(Turn),
     Nothing,
 }
 
 // The acceleration record that a search found.
-#[derive(Drop)]
+#[derive(Clone, Copy)]
 pub enum FoundRecord {
     At(RecordNumber),
     Nothing,

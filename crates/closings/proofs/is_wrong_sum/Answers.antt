@@ -1,0 +1,9 @@
+-- `closings::is_wrong_sum` meets its contract. Assumes nothing.
+use borrow.Author.Rules.{rules}
+use mathlib.Core.Path.{refl}
+use Rattle.join.specs.Check.{wrong_sum}
+use Rattle.closings.proofs.is_wrong_sum.Goals as goal
+
+pub returns : goal.returns
+unfolding wrong_sum
+returns c = λ values w. rw (c.sum_by-sum.ensures values w, c.own_cell-i.ensures.0) refl

@@ -1,0 +1,13 @@
+-- `closings::round_seen` meets its contract. Assumes nothing.
+use borrow.Author.Rules.{rules}
+use mathlib.Core.Path.{refl, sym, ◌∙◌}
+use Rattle.join.specs.Check.{round_seen}
+use Rattle.closings.proofs.round_seen.Goals as goal
+
+pub returns-then-is_seen : goal.returns-then-is_seen
+unfolding round_seen
+returns-then-is_seen c = rw (sym c.is_seen.ensures ∙ c.if-is_seen.true) c.round_at.ensures
+
+pub returns : goal.returns
+unfolding round_seen
+returns c = rw (sym c.is_seen.ensures ∙ c.if-is_seen.false) refl

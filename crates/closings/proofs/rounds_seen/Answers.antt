@@ -1,0 +1,15 @@
+use borrow.Author.Rules.{rules}
+use Prim.Native.Nat.{◌-◌}
+use Rattle.join.specs.Check.{round_seen, rounds_seen}
+use Rattle.turns.proofs.Seeks.{Climbing, climb_none, climb_more, climb_end}
+use Rattle.closings.proofs.rounds_seen.Goals as goal
+
+pub loop-k-init : goal.loop-k-init
+loop-k-init c = climb_none
+
+pub loop-k-preserved : goal.loop-k-preserved
+loop-k-preserved c = climb_more c.loop-k.invariant c.loop-k-test.true _ _ c.round_seen.ensures c.greater-most.ensures
+
+pub returns : goal.returns
+unfolding rounds_seen
+returns c = climb_end c.loop-k.invariant c.loop-k-test.false

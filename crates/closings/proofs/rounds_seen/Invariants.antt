@@ -1,0 +1,12 @@
+-- `closings::rounds_seen` meets its contract. The loop's invariant: the greatest of the first k turns. Assumes nothing.
+use borrow.Author.Rules.{rules}
+use Prim.Native.Nat.{◌-◌}
+use Rattle.join.specs.Check.{round_seen, rounds_seen}
+use Rattle.turns.proofs.Seeks.{Climbing, climb_none, climb_more, climb_end}
+use Rattle.closings.proofs.rounds_seen.Given as goal
+
+abbrev pub invariant-loop-k : goal.invariant-loop-k
+invariant-loop-k l = Climbing (round_seen l.colours) l.end l.k l.most
+
+abbrev pub decreases-loop-k : goal.decreases-loop-k
+decreases-loop-k l = l.end - l.k

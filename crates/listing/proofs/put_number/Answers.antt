@@ -1,0 +1,8 @@
+-- `listing::put_number` meets its contract. Assumes nothing.
+use borrow.Author.Rules.{rules}
+use Rattle.listing.specs.Listing.{decimal}
+use Rattle.listing.proofs.put_number.Goals as goal
+
+pub returns : goal.returns
+unfolding decimal
+returns c = c.put_digits.ensures

@@ -1,0 +1,19 @@
+-- `listing::put_players` meets its contract. The loop's invariant: the lines of the first players are put. Assumes nothing.
+use borrow.Author.Rules.{rules}
+use Rattle.listing.proofs.Lines.{lines_none, lines_next, lines-all}
+use Rattle.listing.proofs.Puts.{put_long}
+use Rattle.listing.specs.Listing.{six, player_lines, most_player_line}
+use Rattle.listing.specs.Put.{Put}
+use lib.ListN.{length}
+use native.Mathlib.Omega.{arith}
+use Prim.Native.Nat.{◌+◌, ◌*◌, ◌-◌, ◌≤◌}
+use mathlib.Core.Path.{◌≡◌, refl, ◌∙◌}
+use Rattle.listing.proofs.put_players.Given as goal
+
+abbrev pub invariant-loop-place : goal.invariant-loop-place
+invariant-loop-place l =
+    Put (player_lines (six l.starts l.points l.ranks l.opponents l.colours l.results) l.rounds l.place) l.at l.initial.out l.end l.out × (l.end ≤ l.at + most_player_line * l.place) × (l.place ≤ l.players) ×
+    (length l.out ≡ length l.initial.out)
+
+abbrev pub decreases-loop-place : goal.decreases-loop-place
+decreases-loop-place l = l.players - l.place

@@ -1,0 +1,12 @@
+-- `player_lines::put_entries` meets its contract. The loop's invariant: the first rounds are put. Assumes nothing.
+use Prim.Native.Nat.{◌-◌}
+use borrow.Author.Rules.{rules}
+use Rattle.puts.proofs.Lined.{lined_none, lined_room, turn_less}
+use Rattle.player_lines.proofs.Rows.{Rounds, round-next, rounds_put}
+use Rattle.player_lines.proofs.put_entries.Given as goal
+
+abbrev pub invariant-loop-done : goal.invariant-loop-done
+invariant-loop-done l = Rounds l.opponents l.colours l.results l.place.0 l.rounds l.at l.initial.out l.out l.done l.next
+
+abbrev pub decreases-loop-done : goal.decreases-loop-done
+decreases-loop-done l = l.rounds - l.done

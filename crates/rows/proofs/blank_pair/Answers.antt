@@ -1,0 +1,9 @@
+-- `rows::blank_pair` meets its contract. Assumes nothing.
+use mathlib.Core.Path.{◌∙◌}
+use borrow.Author.Rules.{rules}
+use Rattle.rows.proofs.Letters.{pair_is}
+use Rattle.rows.proofs.blank_pair.Goals as goal
+
+pub returns : goal.returns
+returns c =
+    c.are_blank.ensures ∙ pair_is c.args.line.now c.args.i c.requires
