@@ -54,6 +54,26 @@ def named(crate, fn, kind):
     return names if len(names) > 1 else []
 
 
+def clause_of(digits, names):
+    """Clauses are nested to the right: the clause that the path of digits leads to, and what is left of the path."""
+    i, k = 0, 0
+    while i < len(names) - 1 and k < len(digits) and digits[k] in "01":
+        if digits[k] == "0":
+            return names[i], digits[k + 1:]
+        i, k = i + 1, k + 1
+    return (names[i], digits[k:]) if i == len(names) - 1 else (None, digits)
+
+
+def all_parts(text, n):
+    parts = top_parts(text)
+    while parts and len(parts) < n:
+        last = top_parts(parts[-1])
+        if not last:
+            return None
+        parts = parts[:-1] + last
+    return parts
+
+
 def top_parts(text):
     """(a, b) at the top: its parts, or None."""
     t = text.strip()
@@ -182,7 +202,9 @@ class Turner:
                 parts[1] = "kept"
             p = steps.get(norm(parts[0])) or steps.get(norm(re.sub("_lem$", "", parts[0])))
             if parts[0] == "requires" and len(parts) > 1 and parts[1].isdigit() and self.own_requires:
-                parts[1] = self.own_requires[int(parts[1])]
+                n, rest = clause_of(parts[1:], self.own_requires)
+                if n:
+                    parts = ["requires", n] + rest
             if p is not None and p[2][0]:
                 new = [p[2][1]]
                 fm = dict((a, b) for a, b in p[4])
@@ -190,7 +212,9 @@ class Turner:
                 if p[3] and len(rest) > 1 and rest[0] == "ensures" and rest[1].isdigit():
                     en = named(*[p[3].split("::")[0], p[3].split("::")[-1]], 1)
                     if en:
-                        rest = [rest[0], en[int(rest[1])]] + rest[2:]
+                        n, more = clause_of(rest[1:], en)
+                        if n:
+                            rest = [rest[0], n] + more
                 if rest and rest[0] in fm:
                     rest = [fm[rest[0]]] + rest[1:]
                 return "c." + ".".join(new + rest)
@@ -233,7 +257,10 @@ class Turner:
             body = re.sub(r"(?<![A-Za-z0-9_'.-])" + re.escape(x) + r"\.([A-Za-z0-9_'-]+)", lambda m: x + "." + fields.get(m[1], m[1]), body)
         if self.own_requires:
             for x in re.findall(r"let (" + IDENT + r") = c\.requires in", body):
-                body = re.sub(r"(?<![A-Za-z0-9_'.-])" + re.escape(x) + r"\.(\d+)", lambda m: x + "." + self.own_requires[int(m[1])], body)
+                def own(m):
+                    n, rest = clause_of(m[1].split(".")[1:], self.own_requires)
+                    return x + "." + ".".join(([n] if n else []) + rest)
+                body = re.sub(r"(?<![A-Za-z0-9_'.-])" + re.escape(x) + r"((?:\.\d+)+)(?![A-Za-z0-9_'-])", own, body)
         asks = []
         m2 = re.match(r"(.*?)-requires(-.*)?$", self.old_need)
         if m2:
@@ -244,7 +271,9 @@ class Turner:
             asks = self.own_ensures
         if asks:
             m3 = re.match(r"((?:\s*let .*? in(?=\s))*)\s*(\(.*\))\s*$", body, re.S)
-            parts = top_parts(m3[2]) if m3 else None
+            parts = all_parts(m3[2], len(asks)) if m3 else None
+            if not parts and body.strip() == "c.requires" and len(asks) == len(self.own_requires):
+                m3, parts = re.match(r"()()", ""), ["c.requires." + n for n in self.own_requires]
             if parts and len(parts) == len(asks):
                 body = m3[1] + ("\n    " if "\n" in m3[1] else " ") + "record { " + "; ".join(f"{a} = {b}" for a, b in zip(asks, parts)) + " }"
             else:
@@ -252,7 +281,7 @@ class Turner:
         body = re.sub(r"\(not-(true|false) (?:_|" + IDENT + r") (c\.[A-Za-z0-9_'-]+)\.\1-raw\)", r"\2.\1", body)
         body = re.sub(r"not-(true|false) (?:_|" + IDENT + r") (c\.[A-Za-z0-9_'-]+)\.\1-raw", r"\2.\1", body)
         body = re.sub(r"(c\.in_default[A-Za-z0-9_'-]*)\.in_default[A-Za-z0-9_'-]*-own\.keys\d+", lambda m: self.no_other(m, at), body)
-        if re.fullmatch(r"\s*(search rules|tt|\(search rules, tt\)|refl|omega arith|search \(rules, counting\))\s*", body):
+        if re.fullmatch(r"\s*(search rules|tt|\(search rules, tt\)|refl|omega arith|search \(rules, counting\))\s*", body) and not unfold:
             return None
         body = body.rstrip()
         if body.strip() and "\n" in body and not body.startswith("\n"):
@@ -277,7 +306,7 @@ class Turner:
                     mine = self.place[self.parent[mine[0]]]
                 kin = [p for p in self.t["places"] if p[1] == mine[1] and norm(p[2][0]) == norm(mine[2][0]) and p[2][1].startswith("in-")]
                 if len(kin) == 1:
-                    return m[1] + ".not-" + kin[0][2][1][3:]
+                    return m[1] + ".not-" + kin[0][2][1].split("-")[1]
                 self.warn.append(f"{m[0]}: arms {[k[2] for k in kin]}")
         return m[0]
 

@@ -7,5 +7,4 @@ pub returns-in-OneU : goal.returns-in-OneU
 returns-in-OneU c = rw c.in-OneU.is (c.first_second_u.ensures _ _ _)
 
 pub first_unkept-requires : goal.first_unkept-requires
-first_unkept-requires c =
-    (of_entry _ c.in_default.not-OneU, (c.requires, (c.grid-grid.ensures, c.order-order.ensures)))
+first_unkept-requires c = record { fact = of_entry _ c.in_default.not-OneU; long = c.requires; grid = (c.grid-grid.ensures, c.order-order.ensures) }

@@ -10,7 +10,7 @@ returns-in_default c = λ n starts colours x. fitting_alone n starts _ colours _
 
 pub cell_of-j-requires : goal.cell_of-j-requires
 cell_of-j-requires c =
-    let x = c.requires.entry_cells_in_bounds.0.2.indexed in
+    let x = c.requires.entry_cells_in_bounds.2.indexed in
     let found = told-player _ _ _ (c.place_of-opponent.ensures _ _ x.says x.low) c.in-At.is in
     (omega (arith, x.few, found), c.requires.place_lt_most_players.1, c.requires.place_lt_most_players.2)
 

@@ -23,7 +23,7 @@ pub returns-in_default-n-2 : goal.returns-in_default-n-2
 returns-in_default-n-2 c =
     let y = capital (code_at c.args.line.now c.args.round) in
     let l = letter-said (code_at c.args.line.now c.args.round) c.in-Value.result (sym c.result_of.ensures ∙ ap letter_says c.in-Value.is) in
-    let n-is = is_bad (number_of (id_bytes c.args.line.now c.args.round)) c.number_of-n.result c.number_of-n.ensures c.in_default-n.not-Value-n c.in_default-n-2.not-Blank in
+    let n-is = is_bad (number_of (id_bytes c.args.line.now c.args.round)) c.number_of-n.result c.number_of-n.ensures c.in_default-n.not-Value c.in_default-n-2.not-Blank in
     id_bad c.args.line.now c.args.round c.requires.0 c.requires.2 y refl (sym c.is_slot_colour.ensures ∙ c.if-not-is_slot_colour.false) l.1 n-is
 
 pub returns-then-not-is_used : goal.returns-then-not-is_used

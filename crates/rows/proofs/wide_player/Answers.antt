@@ -35,7 +35,7 @@ returns-in_default-counted_at c =
     rank_bad c.args.line.now c.args.kept c.requires.1 (sym c.player_else_blank.ensures ∙ c.if-not-player_else_blank.false)
     (sym c.is_kept.ensures ∙ c.if-not-is_kept.false) _ (found _ _ (sym c.counted_at.ensures ∙ ap number_says c.in-Value.is))
     _ (value-said _ _ (sym c.points_at.ensures ∙ ap points_says c.in-Tenths.is))
-    (not_found _ c.counted_at-2.result c.counted_at-2.ensures c.in_default-counted_at.not-Value-counted_at) c.no_row-in_default-counted_at.ensures
+    (not_found _ c.counted_at-2.result c.counted_at-2.ensures c.in_default-counted_at.not-Value) c.no_row-in_default-counted_at.ensures
 
 pub returns-then-not-slots : goal.returns-then-not-slots
 returns-then-not-slots c =
