@@ -11,7 +11,12 @@ pub keeps_at-requires : goal.keeps_at-requires
 keeps_at-requires c =
     let place = c.place_at-place.ensures in
     let round = c.round_at-round.ensures in
-    (c.requires.fact, ((omega (arith, place, c.requires.turn_lt_entry_cells), omega (arith, round), omega (arith, round)), c.requires.1.1))
+    record {
+      fact = c.requires.fact;
+      place_lt_most_players = (omega (arith, place, c.requires.turn_lt_entry_cells), omega (arith, round), omega (arith, round));
+      long = c.requires.long;
+      grid = c.requires.grid;
+    }
 
 pub returns : goal.returns
 returns c = λ n x. broken_here _ n _ _ _ c.round_at-round.ensures c.if-rounds-round.false c.place_at-place.ensures (c.keeps_at.ensures n x)

@@ -17,4 +17,4 @@ cell_of-j-requires c =
 pub returns : goal.returns
 returns c = λ n starts colours x.
     fitting_kept n starts _ colours _ _ _ c.cell_of-i.ensures.0 (c.place_of-opponent.ensures starts n x.says x.low) c.in-At.is
-    c.cell_of-j.ensures.0 c.fits2.ensures
+    c.cell_of-j.ensures.0 c.fits.ensures

@@ -9,8 +9,7 @@ use Rattle.records.specs.declared.Kind.{Kind}
 use Rattle.records.specs.declared.Kind.TheVariants as kind
 use Rattle.records.specs.contracts.Kind.{the_type}
 use Rattle.texts.specs.Stood.{is_text}
-use Rattle.texts.proofs.is_text.Statement.{statement}
-use Rattle.texts.proofs.is_text.Tie as tie
+use Rattle.texts.proofs.is_text.Goals as goal
 
 another : (k : Kind) → OneOf (0 ∷ 2 ∷ 3 ∷ 4 ∷ 5 ∷ 6 ∷ 7 ∷ []) (tag_of the_type k) → false ≡ is_text k
 another kind.PassedOver h = refl
@@ -22,14 +21,5 @@ another kind.Acceleration h = refl
 another kind.Player h = refl
 another kind.Unlisted h = refl
 
-enum_told : tie.Need-enum-told
-enum_told c = search rules
-
-returns : tie.Need-returns
-returns c = search rules
-
-returns-2 : tie.Need-returns-2
-returns-2 c = another c.before.args.kind c.match.keys2
-
-pub is_text_spec : {M : Type 1} → statement M
-is_text_spec = tie.close (tie.spec enum_told returns returns-2)
+pub returns-in_default : goal.returns-in_default
+returns-in_default c = another c.args.kind c.in_default.not-KeptText
