@@ -13,7 +13,7 @@ IDENT = r"[A-Za-z_\u0370-\u03ff\u2080-\u2089][A-Za-z0-9_'\u0370-\u03ff\u2080-\u2
 
 
 def norm(s):
-    return s.replace("_", "-")
+    return s.replace("_", "-").lower()
 
 
 def names_of(crate):

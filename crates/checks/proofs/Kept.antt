@@ -98,10 +98,3 @@ four_in one_U n R t k = refl
 
 pub first_in : (law : Law) (n R : ℕ) (t : Nine) (m : ℕ) → first_from (broken_cell law n R (four t.starts t.opponents t.colours t.results)) 0 m ≡ first_from (broken_cell law n R t) 0 m
 first_in law n R t m = first_as (broken_cell law n R (four t.starts t.opponents t.colours t.results)) (broken_cell law n R t) 0 m (λ k _ _. four_in law n R t k)
-
--- ---- the kind is one of the first three
-pub of_entry : (kind : LawKind) → OneOf (0 ∷ 1 ∷ 2 ∷ []) (tag_of the_type kind) → kind ≡ OneU → ⊥
-of_entry ByeOrGame h e = let z : ◌≡◌ {A = ℕ} 0 1 = cc in omega arith
-of_entry Mutual h e = let z : ◌≡◌ {A = ℕ} 0 1 = cc in omega arith
-of_entry Fitting h e = let z : ◌≡◌ {A = ℕ} 0 1 = cc in omega arith
-of_entry OneU h e = miss (0 ∷ 1 ∷ 2 ∷ []) 3 tt h

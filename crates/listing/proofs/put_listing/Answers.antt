@@ -7,7 +7,7 @@ use Rattle.listing.proofs.put_listing.Goals as goal
 
 pub returns-then-answer-ne0 : goal.returns-then-answer-ne0
 returns-then-answer-ne0 c =
-    (listing-refused c.args.answer (six c.args.starts.now c.args.points.now c.args.ranks.now c.args.opponents.now c.args.colours.now c.args.results.now) c.if-answer-ne0.true c.Put-refused.ensures.0, search rules)
+    (listing-refused c.args.answer (six c.args.starts.now c.args.points.now c.args.ranks.now c.args.opponents.now c.args.colours.now c.args.results.now) c.if-answer-ne0.true c.put_refused.ensures.0, search rules)
 
 pub returns : goal.returns
 returns c =

@@ -45,7 +45,7 @@ pub shape_of-ranks : goal.shape_of-ranks
 shape_of-ranks c = c.store_rank.auto.0
 
 pub shape_of-kept : goal.shape_of-kept
-shape_of-kept c = c.store-Kept.auto.0
+shape_of-kept c = c.store_kept.auto.0
 
 pub shape_of-opponents : goal.shape_of-opponents
 shape_of-opponents c = c.store_numbers.auto.0
@@ -57,7 +57,7 @@ pub shape_of-results : goal.shape_of-results
 shape_of-results c = c.store_letters-2.auto.0
 
 pub shape_of-lines : goal.shape_of-lines
-shape_of-lines c = c.Store-Line.auto.0
+shape_of-lines c = c.store_line.auto.0
 
 pub returns : goal.returns
 returns c =
@@ -67,8 +67,8 @@ returns c =
     c.store_start.ensures
     c.store_points.ensures
     c.store_rank.ensures
-    c.store-Kept.ensures
+    c.store_kept.ensures
     c.store_numbers.ensures
     c.store_letters.ensures
     c.store_letters-2.ensures
-    c.Store-Line.ensures
+    c.store_line.ensures

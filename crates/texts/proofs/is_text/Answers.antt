@@ -1,19 +1,15 @@
 -- `texts::is_text` meets its contract. Assumes nothing.
 use mathlib.Core.Path.{◌≡◌, refl}
 use mathlib.Core.Bool.{false}
-use mathlib.Core.List.{[], ◌∷◌}
 use borrow.Author.Rules.{rules}
-use denote.Enum.Declared.{tag_of}
-use types.Run.{OneOf, miss}
 use Rattle.records.specs.declared.Kind.{Kind}
 use Rattle.records.specs.declared.Kind.TheVariants as kind
-use Rattle.records.specs.contracts.Kind.{the_type}
 use Rattle.texts.specs.Stood.{is_text}
 use Rattle.texts.proofs.is_text.Goals as goal
 
-another : (k : Kind) → OneOf (0 ∷ 2 ∷ 3 ∷ 4 ∷ 5 ∷ 6 ∷ 7 ∷ []) (tag_of the_type k) → false ≡ is_text k
+another : (k : Kind) → (k ≡ kind.KeptText → ⊥) → false ≡ is_text k
 another kind.PassedOver h = refl
-another kind.KeptText h = absurd (miss (0 ∷ 2 ∷ 3 ∷ 4 ∷ 5 ∷ 6 ∷ 7 ∷ []) 1 tt h)
+another kind.KeptText h = absurd (h refl)
 another kind.Rounds h = refl
 another kind.Colour h = refl
 another kind.Scoring h = refl
