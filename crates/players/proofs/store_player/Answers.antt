@@ -35,30 +35,6 @@ pub store_line-requires : goal.store_line-requires
 store_line-requires c =
     (c.requires.place_lt_most_players, c.requires.long_eight.lines_long)
 
-pub shape_of-starts : goal.shape_of-starts
-shape_of-starts c = c.store_start.auto.0
-
-pub shape_of-points : goal.shape_of-points
-shape_of-points c = c.store_points.auto.0
-
-pub shape_of-ranks : goal.shape_of-ranks
-shape_of-ranks c = c.store_rank.auto.0
-
-pub shape_of-kept : goal.shape_of-kept
-shape_of-kept c = c.store_kept.auto.0
-
-pub shape_of-opponents : goal.shape_of-opponents
-shape_of-opponents c = c.store_numbers.auto.0
-
-pub shape_of-colours : goal.shape_of-colours
-shape_of-colours c = c.store_letters.auto.0
-
-pub shape_of-results : goal.shape_of-results
-shape_of-results c = c.store_letters-2.auto.0
-
-pub shape_of-lines : goal.shape_of-lines
-shape_of-lines c = c.store_line.auto.0
-
 pub returns : goal.returns
 returns c =
     let a = c.args in
