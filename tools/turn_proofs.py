@@ -364,7 +364,7 @@ class Turner:
             m = re.match(r"tie\.Need-(\S+)", typ)
             if m:
                 old = norm(m[1])
-                hit = needs.get(old) or needs.get(re.sub(r"^overflow-", "", old))
+                hit = needs.get(old) or needs.get(re.sub(r"^overflow-", "", old)) or needs.get(re.sub(r"^slice-bounds-", "part-", old))
                 if not hit:
                     text = "\n".join(clauses)
                     if not re.search(r"=\s*(search rules|tt)\s*$", text):

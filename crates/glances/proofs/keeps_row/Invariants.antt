@@ -1,0 +1,18 @@
+-- `glances::keeps_row` meets its contract. The loop's invariant: the entries of the first j rounds keep the laws. Assumes nothing.
+use mathlib.Core.Path.{sym}
+use native.Mathlib.Omega.{arith}
+use Prim.Native.Nat.{ℕ, ◌+◌, ◌-◌}
+use borrow.Author.Tests.{not-false}
+use borrow.Author.Count.{below_more}
+use Rattle.kit.proofs.Bools.{clash}
+use Rattle.index.specs.Index.{Indexed}
+use Rattle.checks.specs.Laws.{four}
+use Rattle.glances.specs.Glance.{KeepsEntry, KeepsRow}
+use borrow.Author.Rules.{rules}
+use Rattle.glances.proofs.keeps_row.Given as goal
+
+abbrev pub invariant-loop-j : goal.invariant-loop-j
+invariant-loop-j l = (n : ℕ) → Indexed l.starts n l.index → KeepsRow n (four l.starts l.opponents l.colours l.results) l.place.0 l.j
+
+abbrev pub decreases-loop-j : goal.decreases-loop-j
+decreases-loop-j l = l.rounds - l.j

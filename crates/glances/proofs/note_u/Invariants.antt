@@ -1,0 +1,13 @@
+-- `glances::note_u` meets its contract. The loop's invariant: the flags of the first j rounds are noted. Assumes nothing.
+use borrow.Author.Rules.{rules}
+use mathlib.Core.Path.{◌∙◌}
+use Prim.Native.Nat.{◌-◌}
+use Rattle.law.specs.Sizes.{most_rounds}
+use Rattle.glances.proofs.Once.{Noting, note_none, note_more, note_end, u_is}
+use Rattle.glances.proofs.note_u.Given as goal
+
+abbrev pub invariant-loop-j : goal.invariant-loop-j
+invariant-loop-j l = Noting l.results l.place.0 l.initial.seen l.seen l.j l.again
+
+abbrev pub decreases-loop-j : goal.decreases-loop-j
+decreases-loop-j l = most_rounds - l.j
