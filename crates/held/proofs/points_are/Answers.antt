@@ -1,0 +1,10 @@
+-- `held::points_are` meets its contract. Assumes nothing.
+use native.Mathlib.Omega.{arith}
+use borrow.Author.Rules.{rules}
+use Rattle.kit.proofs.Bools.{within, in_between}
+use Rattle.law.specs.Sizes.{most_points}
+use Rattle.held.proofs.Passed.{from_zero, each_as}
+use Rattle.held.proofs.points_are.Goals as goal
+
+pub returns : goal.returns
+returns c = from_zero (each_as (λ k e. (within 0 most_points _ e).1) (λ k l. in_between 0 most_points _ (omega arith) l) c.numbers_within.ensures)

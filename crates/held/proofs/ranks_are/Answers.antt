@@ -1,0 +1,7 @@
+-- `held::ranks_are` meets its contract. Assumes nothing.
+use borrow.Author.Rules.{rules}
+use Rattle.held.proofs.Passed.{from_zero}
+use Rattle.held.proofs.ranks_are.Goals as goal
+
+pub returns : goal.returns
+returns c = from_zero c.numbers_within.ensures

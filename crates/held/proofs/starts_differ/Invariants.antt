@@ -1,0 +1,12 @@
+-- `held::starts_differ` meets its contract. The loop's invariant: the first p start numbers differ, and the index is theirs. Assumes nothing.
+use Prim.Native.Nat.{◌-◌}
+use native.Mathlib.Omega.{arith}
+use borrow.Author.Rules.{rules}
+use Rattle.held.proofs.Differ.{Differing, low-starts, start-low, differ_next, differ_all, differ_not}
+use Rattle.held.proofs.starts_differ.Given as goal
+
+abbrev pub invariant-loop-p : goal.invariant-loop-p
+invariant-loop-p l = Differing l.starts l.n l.index l.p
+
+abbrev pub decreases-loop-p : goal.decreases-loop-p
+decreases-loop-p l = l.n - l.p
