@@ -88,7 +88,7 @@ def top_parts(text):
             parts.append(t[last:i])
             last = i + 1
     parts.append(t[last:-1])
-    return [p.strip() for p in parts]
+    return [p.strip() for p in parts if p.strip()]
 
 
 def blocks(text):

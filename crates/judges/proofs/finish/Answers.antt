@@ -12,10 +12,8 @@ pub judge-verdict-requires : goal.judge-verdict-requires
 judge-verdict-requires c =
     let l = c.requires.long.0 in
     let colours-as = c.close.ensures.long in
-    let results-as = c.close-2.ensures.long in (
-      (record { starts_long = l.starts_long; opponents_long = l.opponents_long; colours_long = omega (arith, colours-as, l.colours_long); results_long = omega (arith, results-as, l.results_long) }, c.requires.long.1),
-      (c.requires.most_players_in_bounds.0, c.requires.most_players_in_bounds.1, subst (λ (n : ℕ). n ≤ most_rounds) (sym (c.rounds_of-rounds.ensures c.args.records)) c.requires.most_players_in_bounds.2, c.requires.most_players_in_bounds.3, c.requires.most_players_in_bounds.4),
-    )
+    let results-as = c.close-2.ensures.long in
+    record { long = (record { starts_long = l.starts_long; opponents_long = l.opponents_long; colours_long = omega (arith, colours-as, l.colours_long); results_long = omega (arith, results-as, l.results_long) }, c.requires.long.1); most_players_in_bounds = (c.requires.most_players_in_bounds.0, c.requires.most_players_in_bounds.1, subst (λ (n : ℕ). n ≤ most_rounds) (sym (c.rounds_of-rounds.ensures c.args.records)) c.requires.most_players_in_bounds.2, c.requires.most_players_in_bounds.3, c.requires.most_players_in_bounds.4) }
 
 pub returns : goal.returns
 returns c =

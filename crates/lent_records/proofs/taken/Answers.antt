@@ -1,7 +1,8 @@
-use Rattle.std.proofs.Common.{◌<◌, length, add-one, arith, refl}
-use Rattle.lent_records.proofs.Merged.{merged, merged_next}
+use Rattle.std.proofs.Common.{◌≡◌, ◌<◌, length, add-one, arith}
+use Rattle.lent_records.proofs.Merged.{merged_next}
 use Rattle.lent_records.proofs.taken.Goals as goal
 
 pub loop-i-preserved : goal.loop-i-preserved
 loop-i-preserved c =
-    (omega arith, rw (c.loop-i.invariant.1, add-one) (merged_next _ c.loop-i.i c.args.records.now c.args.blank (omega arith) (let h = c.well_formed.1.0 in ?)))
+    let n : length c.args.blank ≡ 32 = c.well_formed.1.0.1.0.1 in
+    (omega arith, rw (c.loop-i.invariant.1, add-one) (merged_next _ c.loop-i.i c.args.records.now c.args.blank (omega arith) (omega arith)))
