@@ -1,9 +1,9 @@
 -- `lawful::is_accepted` meets its contract. That there are six values is what the array's type says. Assumes nothing.
 use Prim.Native.Nat.{ℕ}
-use borrow.Author.Rules.{rules, length_unmapped}
+use borrow.Author.Rules.{rules}
 use Rattle.lawful.proofs.Parts.{answer-told}
 use Rattle.lawful.proofs.is_accepted.Goals as goal
 
 pub returns : goal.returns
 returns c =
-    answer-told c.args.answer (length_unmapped ℕ c.args.answer.values 6 c.well-formed.0.1.1.1.1.1.1.1.1.1.1.0.1.0.1) c.is_colour-colour.ensures c.are_small-small.ensures
+    answer-told c.args.answer c.well_formed.0.1.1.1.1.1.1.1.1.1.1.0.1.0.1 c.is_colour-colour.ensures c.are_small-small.ensures
