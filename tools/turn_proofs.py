@@ -252,6 +252,18 @@ class Turner:
             alias.add(lm[1])
             body = body[: lm.start()] + body[lm.end():]
         body = self.chain(body, alias, at)
+        callee = {p[2][1]: p[3] for p in self.t["places"] if p[3]}
+
+        def parameter(m):
+            step, word, path = m[1], m[2], m[3].split(".")[1:]
+            full = callee.get(alias_of.get(step, step[2:] if step.startswith("c.") else step))
+            k = len(path) - 1
+            if full and path[-1] == "0" and all(x == "1" for x in path[:-1]) and k < len(self.t["params"].get(full, [])):
+                return f"{step}.{word}.{self.t['params'][full][k]}"
+            return m[0]
+
+        alias_of = {x: y for x, y in re.findall(r"let (" + IDENT + r") = c\.([A-Za-z0-9_'-]+) in", body)}
+        body = re.sub(r"(?<![A-Za-z0-9_'.-])(c\.[A-Za-z0-9_'-]+|" + IDENT + r")\.(new|auto)((?:\.[01])+)(?![A-Za-z0-9_'-])", parameter, body)
         fields = {a.split(".")[-1]: b.split(".")[-1] for a, b in self.t["args"] if a.startswith(".args ")}
         for x in re.findall(r"let (" + IDENT + r") = c\.args in", body):
             body = re.sub(r"(?<![A-Za-z0-9_'.-])" + re.escape(x) + r"\.([A-Za-z0-9_'-]+)", lambda m: x + "." + fields.get(m[1], m[1]), body)
