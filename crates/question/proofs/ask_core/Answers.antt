@@ -20,7 +20,7 @@ pub returns-then-not-long : goal.returns-then-not-long
 returns-then-not-long c =
     let a = c.args in
     let t = tables_of a.starts.now a.points.now a.ranks.now a.kept.now a.opponents.now a.colours.now a.results.now a.text.now a.all in
-    let m : length a.all ≡ most_accelerations = c.well-formed.1.1.1.1.1.1.1.1.1.0.1.0.1 in
+    let m : length a.all ≡ most_accelerations = c.well_formed.1.1.1.1.1.1.1.1.1.0.1.0.1 in
     let e = c.enough-long.ensures in
     λ records given. core_short a.answer t a.accelerations a.place a.round records given (sym e ∙ c.if-not-long.true) c.refused.ensures
 
@@ -28,7 +28,7 @@ pub is_reading-requires : goal.is_reading-requires
 is_reading-requires c =
     let a = c.args in
     let t = tables_of a.starts.now a.points.now a.ranks.now a.kept.now a.opponents.now a.colours.now a.results.now a.text.now a.all in
-    let m : length a.all ≡ most_accelerations = c.well-formed.1.1.1.1.1.1.1.1.1.0.1.0.1 in
+    let m : length a.all ≡ most_accelerations = c.well_formed.1.1.1.1.1.1.1.1.1.0.1.0.1 in
     let e = c.enough-long.ensures in
     all-long t a.accelerations (sym e ∙ c.if-not-long.false) (omega arith)
 
@@ -36,7 +36,7 @@ pub returns-then-not-is_reading : goal.returns-then-not-is_reading
 returns-then-not-is_reading c =
     let a = c.args in
     let t = tables_of a.starts.now a.points.now a.ranks.now a.kept.now a.opponents.now a.colours.now a.results.now a.text.now a.all in
-    let m : length a.all ≡ most_accelerations = c.well-formed.1.1.1.1.1.1.1.1.1.0.1.0.1 in
+    let m : length a.all ≡ most_accelerations = c.well_formed.1.1.1.1.1.1.1.1.1.0.1.0.1 in
     let e = c.enough-long.ensures in
     λ records given. core_unread a.answer t a.accelerations a.place a.round records given (sym e ∙ c.if-not-long.false) c.is_reading.ensures c.if-not-is_reading.true c.refused-then-not-is_reading.ensures
 
@@ -44,7 +44,7 @@ pub returns-then-not-is_inside : goal.returns-then-not-is_inside
 returns-then-not-is_inside c =
     let a = c.args in
     let t = tables_of a.starts.now a.points.now a.ranks.now a.kept.now a.opponents.now a.colours.now a.results.now a.text.now a.all in
-    let m : length a.all ≡ most_accelerations = c.well-formed.1.1.1.1.1.1.1.1.1.0.1.0.1 in
+    let m : length a.all ≡ most_accelerations = c.well_formed.1.1.1.1.1.1.1.1.1.0.1.0.1 in
     let e = c.enough-long.ensures in
     λ records given. core_outside a.answer t a.accelerations a.place a.round records given (sym e ∙ c.if-not-long.false) c.is_reading.ensures c.if-not-is_reading.false (sym c.is_inside.ensures ∙ c.if-not-is_inside.true) c.refused-then-not-is_inside.ensures
 
@@ -52,7 +52,7 @@ pub start_at-start-requires : goal.start_at-start-requires
 start_at-start-requires c =
     let a = c.args in
     let t = tables_of a.starts.now a.points.now a.ranks.now a.kept.now a.opponents.now a.colours.now a.results.now a.text.now a.all in
-    let m : length a.all ≡ most_accelerations = c.well-formed.1.1.1.1.1.1.1.1.1.0.1.0.1 in
+    let m : length a.all ≡ most_accelerations = c.well_formed.1.1.1.1.1.1.1.1.1.0.1.0.1 in
     let e = c.enough-long.ensures in
     let g = c.is_reading.ensures.sound c.if-not-is_reading.false in
     let w = inside a.answer a.place a.round (sym c.is_inside.ensures ∙ c.if-not-is_inside.false) in
@@ -63,7 +63,7 @@ pub overflow_sub-round : goal.overflow_sub-round
 overflow_sub-round c =
     let a = c.args in
     let t = tables_of a.starts.now a.points.now a.ranks.now a.kept.now a.opponents.now a.colours.now a.results.now a.text.now a.all in
-    let m : length a.all ≡ most_accelerations = c.well-formed.1.1.1.1.1.1.1.1.1.0.1.0.1 in
+    let m : length a.all ≡ most_accelerations = c.well_formed.1.1.1.1.1.1.1.1.1.0.1.0.1 in
     let e = c.enough-long.ensures in
     let g = c.is_reading.ensures.sound c.if-not-is_reading.false in
     let w = inside a.answer a.place a.round (sym c.is_inside.ensures ∙ c.if-not-is_inside.false) in
@@ -74,7 +74,7 @@ pub sum_of-requires : goal.sum_of-requires
 sum_of-requires c =
     let a = c.args in
     let t = tables_of a.starts.now a.points.now a.ranks.now a.kept.now a.opponents.now a.colours.now a.results.now a.text.now a.all in
-    let m : length a.all ≡ most_accelerations = c.well-formed.1.1.1.1.1.1.1.1.1.0.1.0.1 in
+    let m : length a.all ≡ most_accelerations = c.well_formed.1.1.1.1.1.1.1.1.1.0.1.0.1 in
     let e = c.enough-long.ensures in
     let g = c.is_reading.ensures.sound c.if-not-is_reading.false in
     let w = inside a.answer a.place a.round (sym c.is_inside.ensures ∙ c.if-not-is_inside.false) in
@@ -85,7 +85,7 @@ pub acceleration_for-requires : goal.acceleration_for-requires
 acceleration_for-requires c =
     let a = c.args in
     let t = tables_of a.starts.now a.points.now a.ranks.now a.kept.now a.opponents.now a.colours.now a.results.now a.text.now a.all in
-    let m : length a.all ≡ most_accelerations = c.well-formed.1.1.1.1.1.1.1.1.1.0.1.0.1 in
+    let m : length a.all ≡ most_accelerations = c.well_formed.1.1.1.1.1.1.1.1.1.0.1.0.1 in
     let e = c.enough-long.ensures in
     let g = c.is_reading.ensures.sound c.if-not-is_reading.false in
     let w = inside a.answer a.place a.round (sym c.is_inside.ensures ∙ c.if-not-is_inside.false) in
@@ -97,7 +97,7 @@ unfolding score_answer
 returns c =
     let a = c.args in
     let t = tables_of a.starts.now a.points.now a.ranks.now a.kept.now a.opponents.now a.colours.now a.results.now a.text.now a.all in
-    let m : length a.all ≡ most_accelerations = c.well-formed.1.1.1.1.1.1.1.1.1.0.1.0.1 in
+    let m : length a.all ≡ most_accelerations = c.well_formed.1.1.1.1.1.1.1.1.1.0.1.0.1 in
     let e = c.enough-long.ensures in
     let g = c.is_reading.ensures.sound c.if-not-is_reading.false in
     let w = inside a.answer a.place a.round (sym c.is_inside.ensures ∙ c.if-not-is_inside.false) in

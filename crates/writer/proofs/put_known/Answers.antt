@@ -30,4 +30,4 @@ returns c =
     puts_as (sym (colour_known c.args.colour c.args.end n)) (sym (known_wide c.args.colour c.args.end n)) refl (puts_then c.put_colour-at.ensures c.put_end.ensures)
 
 pub shape_of-out : goal.shape_of-out
-shape_of-out c = (returns-2 c).long
+shape_of-out c = (returns c).long

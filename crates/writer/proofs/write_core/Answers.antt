@@ -23,7 +23,7 @@ pub is_reading-requires : goal.is_reading-requires
 is_reading-requires c =
     let a = c.args in
     let t = tables_of a.starts.now a.points.now a.ranks.now a.kept.now a.opponents.now a.colours.now a.results.now a.text.now a.all in
-    let m : length a.all ≡ most_accelerations = c.well-formed.1.1.1.1.1.1.1.1.1.0.1.0.1 in
+    let m : length a.all ≡ most_accelerations = c.well_formed.1.1.1.1.1.1.1.1.1.0.1.0.1 in
     let long = all-long t a.accelerations (sym c.enough-long.ensures ∙ c.if-not-long.false) (omega arith) in
     long
 
@@ -37,7 +37,7 @@ pub written_length-requires : goal.written_length-requires
 written_length-requires c =
     let a = c.args in
     let t = tables_of a.starts.now a.points.now a.ranks.now a.kept.now a.opponents.now a.colours.now a.results.now a.text.now a.all in
-    let m : length a.all ≡ most_accelerations = c.well-formed.1.1.1.1.1.1.1.1.1.0.1.0.1 in
+    let m : length a.all ≡ most_accelerations = c.well_formed.1.1.1.1.1.1.1.1.1.0.1.0.1 in
     let long = all-long t a.accelerations (sym c.enough-long.ensures ∙ c.if-not-long.false) (omega arith) in
     (good_fit (c.is_reading.ensures.sound c.if-not-is_reading.false), (rooms-are t long).text)
 
@@ -51,7 +51,7 @@ pub put_report-length-requires : goal.put_report-length-requires
 put_report-length-requires c =
     let a = c.args in
     let t = tables_of a.starts.now a.points.now a.ranks.now a.kept.now a.opponents.now a.colours.now a.results.now a.text.now a.all in
-    let m : length a.all ≡ most_accelerations = c.well-formed.1.1.1.1.1.1.1.1.1.0.1.0.1 in
+    let m : length a.all ≡ most_accelerations = c.well_formed.1.1.1.1.1.1.1.1.1.0.1.0.1 in
     let long = all-long t a.accelerations (sym c.enough-long.ensures ∙ c.if-not-long.false) (omega arith) in
     record { fit = good_fit (c.is_reading.ensures.sound c.if-not-is_reading.false); long = (lent-long t long, (rooms-are t long).text); end_in_bounds = let w = c.written_length.ensures in let l = c.if-out-written_length.false in omega arith }
 
