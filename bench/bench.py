@@ -18,7 +18,7 @@ ARCHIVE = os.path.join(ROOT, "target", "staticlib", "libface.a")
 # the driver's words for the calls, and those of the tables
 CALLS = {"read": "read", "write": "write", "write_cr": "write, CR alone", "ask": "ask"}
 # what rt itself says to clang
-FLAGS = ["--target=x86_64-unknown-linux-gnu", "-march=x86-64-v2", "-O2", "-ffunction-sections", "-fdata-sections", "-fPIC", "--no-default-config"]
+FLAGS = ["--target=x86_64-unknown-linux-gnu", "-march=x86-64-v2", "-O3", "-ffunction-sections", "-fdata-sections", "-fPIC", "--no-default-config"]
 # The C library clears and copies by what the processor at hand offers. Counts are taken with what every x86-64 has, so that they are the same everywhere
 # (and `rep stosb` would count once a byte).
 BASELINE = {"GLIBC_TUNABLES": "glibc.cpu.hwcaps=-ERMS,-FSRM,-AVX2,-AVX512VL,-AVX512BW,-AVX512F"}
