@@ -17,9 +17,8 @@ PLUGIN = os.path.join(WORK, "count.so")
 ARCHIVE = os.path.join(ROOT, "target", "staticlib", "libface.a")
 # the driver's words for the calls, and those of the tables
 CALLS = {"read": "read", "write": "write", "write_cr": "write, CR alone", "ask": "ask"}
-NATIVE = platform.machine() == "x86_64"
 # what rt itself says to clang
-FLAGS = ["--target=x86_64-unknown-linux-gnu", "-march=x86-64", "-O3", "-ffunction-sections", "-fdata-sections", "-fPIC", "--no-default-config"]
+FLAGS = ["--target=x86_64-unknown-linux-gnu", "-march=x86-64-v2", "-O3", "-ffunction-sections", "-fdata-sections", "-fPIC", "--no-default-config"]
 # The C library clears and copies by what the processor at hand offers. Counts are taken with what every x86-64 has, so that they are the same everywhere
 # (and `rep stosb` would count once a byte).
 BASELINE = {"GLIBC_TUNABLES": "glibc.cpu.hwcaps=-ERMS,-FSRM,-AVX2,-AVX512VL,-AVX512BW,-AVX512F"}
@@ -39,15 +38,7 @@ def run(words, **more):
 def kit():
     rt = shutil.which("rt") or fail("rt is not on the path")
     home = os.environ.get("RATTLE_HOME") or os.path.dirname(os.path.dirname(os.path.realpath(rt)))
-    return os.path.join(home, "on", platform.machine(), "toolchain")
-
-
-def is_stale():
-    """Whether a source is newer than the archive."""
-    if not os.path.exists(ARCHIVE):
-        return True
-    sources = [os.path.join(ROOT, "crates.txt")] + [os.path.join(folder, name) for folder, _, names in os.walk(os.path.join(ROOT, "crates")) for name in names if name.endswith((".rt", ".antt"))]
-    return any(os.path.getmtime(source) > os.path.getmtime(ARCHIVE) for source in sources)
+    return os.path.join(home, "toolchain")
 
 
 def build():
@@ -55,8 +46,7 @@ def build():
     tools = kit()
     libraries = os.path.join(tools, "lib")
     os.makedirs(WORK, exist_ok=True)
-    if is_stale():
-        run(["rt", "staticlib", "face"], cwd=ROOT)
+    run([os.path.join(ROOT, "tools", "link-c")])
     objects = []
     for name in ("plain", "driver"):
         objects.append(os.path.join(WORK, f"{name}.o"))
@@ -115,7 +105,7 @@ def by_emulator(arguments):
 
 def counter():
     """How instructions are counted here, or None."""
-    if NATIVE and shutil.which("valgrind"):
+    if shutil.which("valgrind"):
         return by_valgrind
     return by_emulator if shutil.which("qemu-x86_64") and shutil.which("cc") else None
 
@@ -130,12 +120,12 @@ def counts(arguments):
 
 def pinned():
     cpu = max(os.sched_getaffinity(0))
-    return ["taskset", "-c", str(cpu)] + ([] if NATIVE else [f"{kit()}/bin/qemu-x86_64", "-cpu", "qemu64"])
+    return ["taskset", "-c", str(cpu)]
 
 
 def driven(word, arguments):
     """Whole numbers by call and maker, which no other process changes."""
-    return figures(run([*([] if NATIVE else pinned()), DRIVER, word, *arguments]), int)
+    return figures(run([DRIVER, word, *arguments]), int)
 
 
 def times(arguments, processes):

@@ -8,7 +8,7 @@
 
    Without FILE the report stands on standard input. Of a refused report standard error has the words. Status: 0 done, 1 refused, 2 trouble.
 
-   With the kit alone, on x86-64 or Arm: tools/link-c report examples/report.c examples/layout.c examples/refuse.c; then tools/run-x86 report list FILE. */
+   With the kit alone: tools/link-c report examples/report.c examples/layout.c examples/refuse.c; then tools/run-x86 report list FILE. */
 #include "report.h"
 
 #include <string.h>

@@ -2,8 +2,7 @@
 command=${0##*/}
 . "$(dirname "$0")/../tools/kit.sh"
 
-made=$here/target/fuzz
-archive=$here/target/staticlib/libface.a
+room=$here/target/fuzz
 
 # compile SOURCE OBJECT WORD...
 compile() {
@@ -14,13 +13,10 @@ compile() {
         -I"$here/include" -I"$here/bench" "$@" -c "$source" -o "$object" || fail "$source does not compile"
 }
 
-# The proved library, made where it is missing or older than a source.
-make_archive() { by_rt "$archive" staticlib face; }
-
 make_objects() {
-    mkdir -p "$made/objects" || exit 1
-    rm -f "$made"/objects/*.o
-    for part in "$here"/fuzz/*.c; do compile "$part" "$made/objects/$(basename "$part" .c).o"; done
+    mkdir -p "$room/objects" || exit 1
+    rm -f "$room"/objects/*.o
+    for part in "$here"/fuzz/*.c; do compile "$part" "$room/objects/$(basename "$part" .c).o"; done
 }
 
 # link_fuzzer PROGRAM FILE...: the fuzzer over two programs, each an object or an archive
@@ -29,7 +25,7 @@ link_fuzzer() {
     shift
     lib=$toolchain/lib
     "$toolchain/bin/ld.lld" -pie -z now -dynamic-linker "$lib/ld-linux-x86-64.so.2" -o "$program" "$lib/Scrt1.o" "$lib/crti.o" "$lib/crtbeginS.o" \
-        "$made"/objects/*.o "$@" "$lib/libc.so.6" "$lib/libc_nonshared.a" "$lib/libgcc.a" "$lib/libgcc_s.so.1" "$lib/crtendS.o" "$lib/crtn.o" ||
+        "$room"/objects/*.o "$@" "$lib/libc.so.6" "$lib/libc_nonshared.a" "$lib/libgcc.a" "$lib/libgcc_s.so.1" "$lib/crtendS.o" "$lib/crtn.o" ||
         fail "$program does not link"
 }
 

@@ -1,10 +1,10 @@
 /* Penumbrico, the hall box: report files (TRF16, with individual records of the TRF25 draft) read into tables, written, and asked for a score.
 
-   Link with target/staticlib/libface.a, which `rt staticlib face` writes for x86-64.
+   Link with target/staticlib/libface.a, which `tools/link-c` writes for x86-64 (level v2).
 
    The calls ask nothing of what stands in the memory that they are lent: every input gets an answer. A table is lent as a pointer and the number of its
    cells; the memory must be there, aligned as its type asks, and what a call writes to may overlap nothing else that it is lent. The calls keep nothing
-   from one to the next, use no heap, and of the C library need memcpy and memset alone. A call takes at most some 14,000 bytes of stack. */
+   from one to the next, use no heap, and of the C library need memcpy and memset alone. A call took at most some 14,000 bytes of stack where that was measured. */
 #ifndef PENUMBRICO_H
 #define PENUMBRICO_H
 

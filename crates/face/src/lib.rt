@@ -1,5 +1,5 @@
-// The face of the box: the public calls, for C or Rust to link. They are lent every table, the acceleration records as a list of structs, and ask nothing of what
-// they are lent. Each takes the records by value to the core of its work, or fills in what the core found. Promised: the statement's relations, for every input.
+// The face of the box: the public calls, for Rust to link; `face_c` has them for C. They are lent every table, the acceleration records as a list of structs, and ask
+// nothing of what they are lent. Each takes the records by value to the core of its work, or fills in what the core found. Promised: the statement's relations, for every input.
 #![tactic(auto)]
 
 ghost use Rattle.law.specs.Calls.{Reads, end_of, Writes, Asks};
@@ -8,8 +8,7 @@ ghost use Rattle.face.specs.Lent.{before, after, given};
 use types::{Acceleration, Answer, Place, Score, Written};
 
 // Reads a file into the tables.
-#[unsafe(no_mangle)]
-pub extern "C" fn trf_read(
+pub fn trf_read(
     file: &[u8],
     starts: &mut [u32],
     points: &mut [u32],
@@ -42,8 +41,7 @@ pub extern "C" fn trf_read(
 }
 
 // Writes the tournament of a reading into the output, each line ended with CR LF, or with CR alone where the caller asks for that.
-#[unsafe(no_mangle)]
-pub extern "C" fn trf_write(
+pub fn trf_write(
     answer: Answer,
     starts: &[u32],
     points: &[u32],
@@ -79,8 +77,7 @@ pub extern "C" fn trf_write(
 }
 
 // Asks a reading for the sum that the player at a place has earned before a round, and the acceleration for that round.
-#[unsafe(no_mangle)]
-pub extern "C" fn trf_ask(
+pub fn trf_ask(
     answer: Answer,
     starts: &[u32],
     points: &[u32],

@@ -1,4 +1,4 @@
--- No file that the writer produces is longer than `longest`, so each is a file of at most 65,535 bytes, and it is accepted. Assumes nothing.
+-- No file that the writer produces is longer than `longest`, so each is a file of at most 65,535 bytes. Assumes nothing.
 use mathlib.Core.Path.{◌≡◌, refl, sym, ap, ◌∙◌}
 use mathlib.Core.Bool.{Bool, true, false, cond, ◌||◌, not}
 use mathlib.Core.Option.{some}
@@ -20,13 +20,11 @@ use Rattle.law.specs.Text.{text_codes, is_name, ended}
 use Rattle.law.specs.Accelerations.{is_acceleration}
 use Rattle.law.specs.Tournament.{Player, Tournament}
 use Rattle.law.specs.Lawful.{KeptLine, LawfulPlayer, Lawful}
-use Rattle.law.specs.Refusals.{Accepted}
 use Rattle.law.specs.Writing.{rounds_line, colour_line, colour_lines, scoring_line, acceleration_line, player_line, written_lines, written, longest}
 use Rattle.law.proofs.Seats.{text-listed}
-use Rattle.law.proofs.Judges.{lawful_accepted}
 use Rattle.written.proofs.Heads.{rounds-long, scoring-long, acceleration-long}
 use Rattle.written.proofs.PlayerLines.{GoodEntry, player-long}
-use Rattle.written.proofs.Spelled.{entries-good, all-and, of_all, written-spells}
+use Rattle.written.proofs.Spelled.{entries-good, all-and, of_all}
 
 -- the bytes of some lines, each with its CR
 abbrev bytes : List (List ℕ) → ℕ
@@ -183,7 +181,3 @@ written-long e t h =
 pub longest-most : (e : End) → longest e ≤ most_file
 longest-most cr = omega arith
 longest-most crlf = omega arith
-
--- so it is accepted, as that tournament
-pub written-accepted : (e : End) (t : Tournament) → Lawful t → (ps : List ℕ) × (rs : List ℕ) × Accepted true (written e t) t ps rs
-written-accepted e t h = lawful_accepted (written e t) t (let l = written-long e t h in let m = longest-most e in omega arith) (written-spells e t h) h

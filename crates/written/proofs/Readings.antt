@@ -19,12 +19,13 @@ use Rattle.law.specs.Lines.{End, cr}
 use Rattle.law.specs.Tournament.{Tournament}
 use Rattle.law.specs.Lawful.{Lawful}
 use Rattle.law.specs.Tables.{Tables, Lent, line_cells, enough, enough_lent, lines_content, answer_of}
-use Rattle.law.specs.Refusals.{no_refusal, accepted, Judged}
+use Rattle.law.specs.Refusals.{no_refusal, accepted, Accepted, Judged}
 use Rattle.law.specs.Writing.{written, earned_before, acceleration_for}
 use Rattle.law.specs.Calls.{Reading, Denial, denial_of, NoReading, WriterDenies, written_answer, Writes, write_refused, write_done, QuestionDenies, score_answer, Asks, ask_refused, ask_done}
+use Rattle.law.proofs.Judges.{lawful_accepted}
 use Rattle.law.proofs.ReadsOnce.{lent-enough}
 use Rattle.written.proofs.Spelled.{written-spells}
-use Rattle.written.proofs.Lengths.{written-accepted}
+use Rattle.written.proofs.Lengths.{written-long, longest-most}
 -- what needs no writer
 pub use Rattle.law.proofs.Readings.{Has, Read, accepted_read, reading_has, one_reading}
 
@@ -35,6 +36,10 @@ blank-lines = replicate line_cells 0
 lent-long : (tables : Tables) → enough tables ≡ true → enough_lent (record { tables = tables; lines = blank-lines }) ≡ true
 unfolding enough enough_lent blank-lines
 lent-long tables h = both (le-leb line_cells (length blank-lines) (let l = length-replicate {A = ℕ} line_cells 0 in omega arith)) h
+
+-- what the writer produces is accepted, as that tournament
+pub written-accepted : (e : End) (t : Tournament) → Lawful t → (ps : List ℕ) × (rs : List ℕ) × Accepted true (written e t) t ps rs
+written-accepted e t h = lawful_accepted (written e t) t (let l = written-long e t h in let m = longest-most e in omega arith) (written-spells e t h) h
 
 pub has_reading : (answer : Answer) (tables : Tables) (t : Tournament) → Lawful t → Has t answer tables → Reading answer tables (written cr t) t
 unfolding answer_of

@@ -1,4 +1,5 @@
 -- `player_lines::put_entry` meets its contract. Assumes nothing.
+use mathlib.Core.Path.{◌∙◌}
 use borrow.Author.Rules.{rules}
 use Rattle.puts.proofs.Puts.{puts_then, room-left, room_next}
 use Rattle.player_lines.proofs.put_entry.Goals as goal
@@ -23,4 +24,4 @@ returns c =
     puts_then c.put_blanks-at.ensures (puts_then c.put_id-at.ensures (puts_then c.put_letter-at.ensures c.put_result.ensures))
 
 pub shape_of-out : goal.shape_of-out
-shape_of-out c = (returns c).long
+shape_of-out c = c.put_result.ensures.long ∙ c.put_letter-at.ensures.long ∙ c.put_id-at.ensures.long ∙ c.put_blanks-at.ensures.long
