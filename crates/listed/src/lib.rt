@@ -1,7 +1,7 @@
 // A file's listing: the file is read into tables of the listed sizes, and what was read is listed; from a reader, and to the two outputs.
 #![tactic(auto)]
 
-ghost use Rattle.std.specs.Prelude.{length};
+ghost use Rattle.std.specs.Prelude.{◌≤◌, length};
 ghost use Rattle.listed.specs.Counts.{IsPrefixLen};
 ghost use Rattle.listing.specs.Outcomes.{Lists};
 ghost use Rattle.listed.specs.Input.{BytesIn};
