@@ -63,7 +63,7 @@ const VALUES: u32 = 23;
 
 // What is changed in a reading, a cell of a part to a value (part 0: nothing); which table is lent one cell short (0: none); how much output; the place and
 // round asked about. The row's last part is its name.
-#[derive(Drop)]
+#[derive(Clone, Copy)]
 pub struct Case {
     pub part: u32,
     pub cell: usize,

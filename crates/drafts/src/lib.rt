@@ -16,18 +16,22 @@
 mod prints;
 
 ghost use Rattle.std.specs.Prelude.{◌≤◌, length};
-ghost use Rattle.io.specs.Counts.{IsPrefixLen};
+ghost use Rattle.drafts.specs.Counts.{IsPrefixLen};
 
 pub use prints::{
     MARK, count_bytes, is_same, print_bytes, print_field, print_lines, print_name, print_numbers,
-    print_rest,
+    print_rest, print_text,
 };
+use std::io::Read;
 
 // One byte more than a file may have.
 pub const ROOM: usize = types::MOST_FILE + 1;
 
+// The bytes of rows that are read.
+pub const MOST_ROWS: usize = 65536;
+
 // Where the file ends; where the other text ends that stands after it, if the file is closed.
-#[derive(Drop)]
+#[derive(Clone, Copy)]
 pub struct Draft {
     pub file: usize,
     pub end: usize,
@@ -35,10 +39,35 @@ pub struct Draft {
 }
 
 // A number in a row, and where it ends.
-#[derive(Drop)]
+#[derive(Clone, Copy)]
 pub struct Number {
     pub value: u32,
     pub end: usize,
+}
+
+// What one read gives; a read that fails gives nothing.
+fn read_some(input: &mut impl Read, room: &mut [u8]) -> usize
+    ensures { IsPrefixLen result room.new }
+{
+    match input.read(room) {
+        Ok(n) => n,
+        Err(_) => 0,
+    }
+}
+
+// Reads until there is no room, the input ends or a read fails. Answers how many bytes were read.
+pub fn read_rows(input: &mut impl Read, rows: &mut [u8]) -> usize
+    ensures { IsPrefixLen result rows.new }
+{
+    let mut n = 0;
+    while n < rows.len() {
+        let more = read_some(input, &mut rows[n..]);
+        if more == 0 {
+            break;
+        }
+        n += more;
+    }
+    n
 }
 
 // n, or the room where that is less.

@@ -1,5 +1,4 @@
--- What a reading promises, for listing it: the answer's counts are small, and what is listed is what the statement says of the file. Bytes that were put
--- are counted by their end.
+-- What a reading promises, for listing it: the answer's counts are small, and what is listed is what the statement says of the file.
 -- Assumes nothing.
 use mathlib.Core.Path.{◌≡◌, refl, sym, ap, ◌∙◌, subst}
 use mathlib.Core.Bool.{Bool, true}
@@ -7,8 +6,6 @@ use mathlib.Core.List.{List}
 use Prim.Native.Nat.{ℕ, ◌≤◌}
 use native.Mathlib.Omega.{arith}
 use lib.ListN.{length, replicate, length-replicate}
-use lib.Seq.{length-take-le}
-use Rattle.io.specs.Counts.{IsPrefixLen}
 use Rattle.types.specs.declared.Acceleration.{Acceleration}
 use Rattle.types.specs.declared.Answer.{Answer}
 use borrow.Author.Tests.{le-leb}
@@ -28,11 +25,7 @@ use Rattle.listing.specs.Put.{Put}
 use Rattle.listing.specs.Listing.{six, listing}
 use Rattle.listing.specs.Outcomes.{Lists}
 use Rattle.listing.proofs.Told.{read_and-listed, refused-numbered}
-use Rattle.listed.specs.declared.Input.{Input}
-use Rattle.listed.specs.declared.Input.TheVariants.{Bytes}
-use Rattle.listed.specs.Input.{BytesIn}
 use Rattle.listed.specs.Printed.{number_of, Numbered, IsAccepted, IsRefused}
-use Rattle.listing.proofs.Puts.{put_long}
 
 abbrev Small : Answer → Type 0
 Small a = (a.players ≤ most_players) × (a.rounds ≤ most_rounds)
@@ -103,9 +96,3 @@ says-refused {file} {n} h f = go h.outcome h.judged h.says
     go : (o : Outcome) → Judged true file o → n ≡ number_of o → IsRefused file
     go (refused q) j e = record { refusal = q; judged = j }
     go (accepted t ps rs) j e = absurd (f e)
-
-pub put_counts : {bytes : List ℕ} {at : ℕ} {t : List ℕ} {e : ℕ} {u : List ℕ} → Put bytes at t e u → IsPrefixLen e u
-put_counts {bytes} {at} {t} {e} {u} p = let h : e ≤ length u = subst (λ (k : ℕ). e ≤ k) (sym (put_long p)) p.fits in (h, sym (length-take-le e u h))
-
-pub bytes_in : {r : Input} {n room : ℕ} → r ≡ Bytes n → BytesIn r room → n ≤ room
-bytes_in {r} {n} {room} e h = subst (λ (i : Input). BytesIn i room) e h

@@ -5,4 +5,4 @@ use Rattle.listed.specs.declared.Input.TheVariants.{Bytes, Failed}
 
 abbrev pub BytesIn : Input → ℕ → Type 0
 BytesIn (Bytes n) room = n ≤ room
-BytesIn Failed room = Unit {0}
+BytesIn (Failed e) room = Unit {0}

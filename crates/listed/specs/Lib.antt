@@ -1,2 +1,3 @@
+pub mod Counts
 pub mod Input
 pub mod Printed

@@ -29,5 +29,5 @@ pub record IsRefused (file : List ℕ) : Type 0 where
 abbrev pub Says : Printed → List ℕ → Type 0
 Says Accepted file = IsAccepted file
 Says Refused file = IsRefused file
-Says Unread file = Unit {0}
-Says Lost file = Unit {0}
+Says (Unread e) file = Unit {0}
+Says (Lost e) file = Unit {0}

@@ -1,21 +1,22 @@
-// A file's listing: the file is read into tables of the listed sizes, and what was read is listed; from a descriptor, and to standard output.
+// A file's listing: the file is read into tables of the listed sizes, and what was read is listed; from a reader, and to the two outputs.
 #![tactic(auto)]
 
-ghost use Rattle.std.specs.Prelude.{length};
-ghost use Rattle.io.specs.Counts.{IsPrefixLen};
+ghost use Rattle.std.specs.Prelude.{◌≤◌, length};
+ghost use Rattle.listed.specs.Counts.{IsPrefixLen};
 ghost use Rattle.listing.specs.Outcomes.{Lists};
 ghost use Rattle.listed.specs.Input.{BytesIn};
 ghost use Rattle.listed.specs.Printed.{Numbered, Says};
 
-use libc::{STDERR_FILENO, STDOUT_FILENO};
 use listing::{ANSWER_LINE, LISTING};
+use std::io;
+use std::io::{Cursor, Read, Write};
 use types::{Answer, ENTRIES, KEPT, LINES, MOST_ACCELERATIONS, MOST_PLAYERS, MOST_TEXT};
 
 // One byte more than the largest file, so that a larger one is seen to be larger: no more is read of it.
 pub const MOST_READ: usize = types::MOST_FILE + 1;
 
 // The number of a file's refusal, 0 where it is accepted, and how many bytes its listing has.
-#[derive(Drop)]
+#[derive(Clone, Copy)]
 pub struct Listed {
     pub number: u32,
     pub length: usize,
@@ -60,71 +61,100 @@ pub fn list_file(file: &[u8], out: &mut [u8; LISTING]) -> Listed
 }
 
 // What came of a file: it is accepted, or refused, and all that is printed of it was written; it could not be read; or some of what is printed is lost.
-#[derive(Drop)]
+#[derive(Clone, Copy)]
 pub enum Printed {
     Accepted,
     Refused,
-    Unread,
-    Lost,
+    Unread(io::Error),
+    Lost(io::Error),
 }
 
-// The listing of a file, to standard output. The line of a refused one goes to standard error too.
-pub fn print_listing(file: &[u8]) -> Printed
+// The listing of a file, to an output. The line of a refused one goes to the output for errors too.
+pub fn print_listing(out: &impl Print, err: &impl Print, file: &[u8]) -> Printed
     ensures { Says result file.now }
 {
-    let mut out = [0u8; LISTING];
-    let done = list_file(file, &mut out);
+    let mut bytes = [0u8; LISTING];
+    let done = list_file(file, &mut bytes);
     let n = done.length;
-    if !io::write_all(STDOUT_FILENO, &out[..n]) {
-        return Printed::Lost;
+    if let Err(e) = out.write_all(&bytes[..n]) {
+        return Printed::Lost(e);
     }
     if done.number == 0 {
         return Printed::Accepted;
     }
-    if !io::write_all(STDERR_FILENO, &out[..n]) {
-        return Printed::Lost;
+    if let Err(e) = err.write_all(&bytes[..n]) {
+        return Printed::Lost(e);
     }
     Printed::Refused
 }
 
-// The line of a refusal, to a descriptor. Answers false where it was not written whole.
-pub fn print_refused(fd: i32, answer: Answer) -> bool {
-    let mut out = [0u8; ANSWER_LINE];
-    let n = listing::put_refused(&mut out, answer);
-    io::write_all(fd, &out[..n])
+// The line of a refusal, to an output; or why it was not written whole.
+pub fn print_refused(err: &impl Print, answer: Answer) -> io::Result<()> {
+    let mut bytes = [0u8; ANSWER_LINE];
+    let n = listing::put_refused(&mut bytes, answer);
+    err.write_all(&bytes[..n])
 }
 
 // What was read: so many bytes, or a read failed.
-#[derive(Drop)]
+#[derive(Clone, Copy)]
 pub enum Input {
     Bytes(usize),
-    Failed,
+    Failed(io::Error),
 }
 
 // Reads to the end of a file, or until there is no room. A read that fails is not the end.
-pub fn read_input(fd: i32, file: &mut [u8]) -> Input
+pub fn read_input(input: &mut impl Read, file: &mut [u8]) -> Input
     ensures { BytesIn result (length file.old) }
 {
     let mut n = 0;
     while n < file.len() {
-        let got = libc::read(fd, &mut file[n..]);
-        if got < 0 {
-            return Input::Failed;
+        match input.read(&mut file[n..]) {
+            Ok(0) => return Input::Bytes(n),
+            Ok(more) => n += more,
+            Err(e) => return Input::Failed(e),
         }
-        let more = io::count(got, &file[n..]);
-        if more == 0 {
-            return Input::Bytes(n);
-        }
-        n += more;
     }
     Input::Bytes(n)
 }
 
-// The listing of what a descriptor gives, as `print_listing` prints it. Where it cannot be read, nothing is written.
-pub fn print_input(fd: i32) -> Printed {
+// The listing of what a reader gives, as `print_listing` prints it. Where it cannot be read, nothing is written.
+pub fn print_input(input: &mut impl Read, out: &impl Print, err: &impl Print) -> Printed {
     let mut file = [0u8; MOST_READ];
-    let Input::Bytes(n) = read_input(fd, &mut file) else {
-        return Printed::Unread;
-    };
-    print_listing(&file[..n])
+    match read_input(input, &mut file) {
+        Input::Bytes(n) => print_listing(out, err, &file[..n]),
+        Input::Failed(e) => Printed::Unread(e),
+    }
+}
+
+// More bytes than the text of any error has.
+const MOST_WORDS: usize = 512;
+
+// What stands in the text of a system's error before its number.
+const NUMBERED: &[u8] = b" (os error ";
+
+// Where an error's words end in its text: before the number, or with all.
+fn words_end(text: &[u8]) -> usize
+    ensures { result ≤ length text.now }
+{
+    let mut end = 0;
+    while end < text.len() {
+        if text[end..].starts_with(NUMBERED) {
+            return end;
+        }
+        end += 1;
+    }
+    end
+}
+
+// A line: what could not be read or written, a colon, and the words for why.
+pub fn print_failure(err: &impl Print, what: &[u8], error: io::Error) {
+    let mut text = Cursor::new([0u8; MOST_WORDS]);
+    let _ = write!(text, "{error}");
+    let n = (text.position() as usize).min(MOST_WORDS);
+    let bytes = text.into_inner();
+    let end = words_end(&bytes[..n]);
+    let _ = err.write_all(what);
+    let _ = err.write_all(b": ");
+    let _ = err.write_all(&bytes[..end]);
+    let _ = err.write_all(b"\n");
 }

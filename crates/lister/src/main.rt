@@ -1,16 +1,16 @@
 // Lists the report file that stands on standard input. Standard error has one line: `accepted`, the line of a refusal, or what could not be read or written.
 #![tactic(auto)]
 
-use libc::{STDERR_FILENO, STDIN_FILENO};
 use listed::Printed;
 
-fn main() {
-    match listed::print_input(STDIN_FILENO) {
+fn main(rt: HostRuntime) {
+    let err = rt.stderr();
+    match listed::print_input(&mut rt.stdin(), &rt.stdout(), &err) {
         Printed::Accepted => {
-            io::write_all(STDERR_FILENO, b"accepted\n");
+            let _ = err.write_all(b"accepted\n");
         }
         Printed::Refused => {}
-        Printed::Unread => os::fail(b"standard input"),
-        Printed::Lost => os::fail(b"standard output"),
+        Printed::Unread(e) => listed::print_failure(&err, b"standard input", e),
+        Printed::Lost(e) => listed::print_failure(&err, b"standard output", e),
     }
 }

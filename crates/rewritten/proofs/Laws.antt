@@ -1,12 +1,12 @@
 -- What a reading and a writing promise, for printing: no more bytes than there was room for, and the number of the file's answer. Assumes nothing.
 use mathlib.Core.Path.{◌≡◌, refl, sym, ap, ◌∙◌, subst}
 use mathlib.Core.Bool.{Bool, true, false}
-use mathlib.Core.List.{List, map}
+use mathlib.Core.List.{List}
 use Prim.Native.Nat.{ℕ, ◌≤◌}
 use native.Mathlib.Omega.{arith}
-use lib.ListN.{length, length-map, take-append-drop}
+use lib.ListN.{length, take-append-drop}
 use lib.Seq.{length-take-le, take_all}
-use Rattle.io.specs.Counts.{IsPrefixLen}
+use Rattle.listed.specs.Counts.{IsPrefixLen}
 use Rattle.types.specs.declared.Acceleration.{Acceleration}
 use Rattle.types.specs.declared.Answer.{Answer}
 use Rattle.types.specs.declared.Written.{Written}
@@ -35,9 +35,6 @@ room end a t x r y (write_done h) =
     let k = fits end a t x r y h in
     let l = h.bytes.long in
     omega arith
-
-pub unmapped : {A B : Type 0} (f : A → B) (l : List A) (n : ℕ) → length (map f l) ≡ n → length l ≡ n
-unmapped f l n e = sym (length-map l f) ∙ e
 
 -- what has room for the longest file with CR LF has room for either
 pub either_fits : (cr_alone : Bool) {n : ℕ} → longest crlf ≤ n → longest (end_of cr_alone) ≤ n

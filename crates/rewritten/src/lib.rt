@@ -1,21 +1,21 @@
-// A file in the writer's spelling: the file is read into tables of the listed sizes, and what was read is written; from a descriptor, and to standard
-// output.
+// A file in the writer's spelling: the file is read into tables of the listed sizes, and what was read is written; from a reader, and to the two
+// outputs.
 #![tactic(auto)]
 
-ghost use Rattle.io.specs.Counts.{IsPrefixLen};
+ghost use Rattle.listed.specs.Counts.{IsPrefixLen};
 ghost use Rattle.listed.specs.Printed.{Says};
 ghost use Rattle.law.specs.Calls.{end_of};
 ghost use Rattle.rewritten.specs.Rewrites.{Rewrites};
 
-use libc::{STDERR_FILENO, STDOUT_FILENO};
 use listed::{Input, MOST_READ, Printed};
+use std::io::Read;
 use types::{Answer, ENTRIES, KEPT, LINES, MOST_ACCELERATIONS, MOST_PLAYERS, MOST_TEXT};
 
 // The longest file that the writer can produce, with CR LF.
 pub const MOST_WRITTEN: usize = 61887;
 
 // What the reading answered, and how many bytes were written: none where the file is refused.
-#[derive(Drop)]
+#[derive(Clone, Copy)]
 pub struct Rewritten {
     pub answer: Answer,
     pub length: usize,
@@ -72,31 +72,36 @@ pub fn rewrite_file(file: &[u8], cr_alone: bool, out: &mut [u8; MOST_WRITTEN]) -
     }
 }
 
-// A file in the writer's spelling, with CR LF or with CR alone, to standard output. A refusal's line goes to standard error.
-pub fn print_rewritten(file: &[u8], cr_alone: bool) -> Printed
+// A file in the writer's spelling, with CR LF or with CR alone, to an output. A refusal's line goes to the output for errors.
+pub fn print_rewritten(out: &impl Print, err: &impl Print, file: &[u8], cr_alone: bool) -> Printed
     ensures { Says result file.now }
 {
-    let mut out = [0u8; MOST_WRITTEN];
-    let done = rewrite_file(file, cr_alone, &mut out);
+    let mut bytes = [0u8; MOST_WRITTEN];
+    let done = rewrite_file(file, cr_alone, &mut bytes);
     let answer = done.answer;
     let n = done.length;
     if answer.number == 0 {
-        if !io::write_all(STDOUT_FILENO, &out[..n]) {
-            return Printed::Lost;
+        if let Err(e) = out.write_all(&bytes[..n]) {
+            return Printed::Lost(e);
         }
         return Printed::Accepted;
     }
-    if !listed::print_refused(STDERR_FILENO, answer) {
-        return Printed::Lost;
+    if let Err(e) = listed::print_refused(err, answer) {
+        return Printed::Lost(e);
     }
     Printed::Refused
 }
 
-// The same, of what a descriptor gives. Where it cannot be read, nothing is written.
-pub fn print_input(fd: i32, cr_alone: bool) -> Printed {
+// The same, of what a reader gives. Where it cannot be read, nothing is written.
+pub fn print_input(
+    input: &mut impl Read,
+    out: &impl Print,
+    err: &impl Print,
+    cr_alone: bool,
+) -> Printed {
     let mut file = [0u8; MOST_READ];
-    let Input::Bytes(n) = listed::read_input(fd, &mut file) else {
-        return Printed::Unread;
-    };
-    print_rewritten(&file[..n], cr_alone)
+    match listed::read_input(input, &mut file) {
+        Input::Bytes(n) => print_rewritten(out, err, &file[..n], cr_alone),
+        Input::Failed(e) => Printed::Unread(e),
+    }
 }

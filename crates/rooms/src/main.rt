@@ -7,8 +7,7 @@
 
 ghost use Rattle.std.specs.Prelude.{◌≤◌};
 
-use drafts::{Draft, MARK, ROOM};
-use libc::{STDIN_FILENO, STDOUT_FILENO};
+use drafts::{Draft, MARK, MOST_ROWS, ROOM};
 use lines_read::CoreAnswer;
 
 // The cells past each listed size.
@@ -46,6 +45,7 @@ fn part(cells: usize, table: u32, short: u32) -> usize
 
 // Of each table, in the order of the reader's parameters.
 fn print_cells(
+    rt: &impl Print,
     starts: &[u32; PLAYERS],
     points: &[u32; PLAYERS],
     ranks: &[u32; PLAYERS],
@@ -56,42 +56,42 @@ fn print_cells(
     text: &[u8; TEXT],
     lines: &[u32; LINES],
 ) {
-    io::write_all(STDOUT_FILENO, b"cells");
-    drafts::print_numbers(starts);
-    drafts::print_numbers(points);
-    drafts::print_numbers(ranks);
-    drafts::print_bytes(kept);
-    drafts::print_numbers(opponents);
-    drafts::print_bytes(colours);
-    drafts::print_bytes(results);
-    drafts::print_bytes(text);
-    drafts::print_numbers(lines);
-    io::write_all(STDOUT_FILENO, b"\n");
+    drafts::print_text(rt, b"cells");
+    drafts::print_numbers(rt, starts);
+    drafts::print_numbers(rt, points);
+    drafts::print_numbers(rt, ranks);
+    drafts::print_bytes(rt, kept);
+    drafts::print_numbers(rt, opponents);
+    drafts::print_bytes(rt, colours);
+    drafts::print_bytes(rt, results);
+    drafts::print_bytes(rt, text);
+    drafts::print_numbers(rt, lines);
+    drafts::print_text(rt, b"\n");
 }
 
-fn print_part(n: u32) {
-    drafts::print_field(b" ", n as u64);
+fn print_part(rt: &impl Print, n: u32) {
+    drafts::print_field(rt, b" ", n as u64);
 }
 
 // Number, line and round; players, rounds, acceleration records and bytes of text; and how many records are to be filled in.
-fn print_answer(core: CoreAnswer) {
+fn print_answer(rt: &impl Print, core: CoreAnswer) {
     let answer = core.answer;
     let line = answer.line;
-    io::write_all(STDOUT_FILENO, b"answer");
-    print_part(answer.number);
-    print_part(line.0);
-    print_part(answer.round);
-    print_part(answer.players);
-    print_part(answer.rounds);
-    print_part(answer.accelerations);
-    drafts::print_field(b" ", answer.text as u64);
-    drafts::print_field(b" ", core.fill as u64);
-    io::write_all(STDOUT_FILENO, b"\n");
+    drafts::print_text(rt, b"answer");
+    print_part(rt, answer.number);
+    print_part(rt, line.0);
+    print_part(rt, answer.round);
+    print_part(rt, answer.players);
+    print_part(rt, answer.rounds);
+    print_part(rt, answer.accelerations);
+    drafts::print_field(rt, b" ", answer.text as u64);
+    drafts::print_field(rt, b" ", core.fill as u64);
+    drafts::print_text(rt, b"\n");
 }
 
 // A reading into tables of which one may be short, and what it left. The tables count from 1 in the order of the reader's parameters, the acceleration
 // records as the tenth.
-fn read_case(file: &[u8], d: Draft, short: u32) {
+fn read_case(rt: &impl Print, file: &[u8], d: Draft, short: u32) {
     let end = drafts::file_end(d, file);
     let of_starts = part(PLAYERS, 1, short);
     let of_points = part(PLAYERS, 2, short);
@@ -125,31 +125,31 @@ fn read_case(file: &[u8], d: Draft, short: u32) {
         &mut lines[..of_lines],
         records,
     );
-    print_answer(core);
+    print_answer(rt, core);
     print_cells(
-        &starts, &points, &ranks, &kept, &opponents, &colours, &results, &text, &lines,
+        rt, &starts, &points, &ranks, &kept, &opponents, &colours, &results, &text, &lines,
     );
 }
 
 // What a row does: the draft after it.
-fn take_row(file: &mut [u8; ROOM], d: Draft, row: &[u8]) -> Draft {
+fn take_row(rt: &impl Print, file: &mut [u8; ROOM], d: Draft, row: &[u8]) -> Draft {
     if drafts::first_of(row) != b'!' {
         return drafts::put_row(file, d, row);
     }
     let short = drafts::number_at(row, 1);
-    drafts::print_rest(row, short.end);
-    io::write_all(STDOUT_FILENO, b"\n");
-    read_case(file, d, short.value);
+    drafts::print_rest(rt, row, short.end);
+    drafts::print_text(rt, b"\n");
+    read_case(rt, file, d, short.value);
     d
 }
 
-fn take_rows(rows: &[u8]) {
+fn take_rows(rt: &impl Print, rows: &[u8]) {
     let mut file = [0u8; ROOM];
     let mut draft = drafts::nothing();
     let mut from = 0;
     while from < rows.len() {
         let end = drafts::end_of(rows, from, b'\n');
-        draft = take_row(&mut file, draft, &rows[from..end]);
+        draft = take_row(rt, &mut file, draft, &rows[from..end]);
         if end == rows.len() {
             return;
         }
@@ -157,8 +157,8 @@ fn take_rows(rows: &[u8]) {
     }
 }
 
-fn main() {
-    let mut rows = io::large_buffer();
-    let n = io::read_full(STDIN_FILENO, &mut rows);
-    take_rows(&rows[..n]);
+fn main(rt: HostRuntime) {
+    let mut rows = [0u8; MOST_ROWS];
+    let n = drafts::read_rows(&mut rt.stdin(), &mut rows);
+    take_rows(&rt, &rows[..n]);
 }

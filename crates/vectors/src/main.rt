@@ -4,52 +4,61 @@
 //     <NAME        the listing of the file that has the name
 #![tactic(auto)]
 
-use drafts::{Draft, ROOM};
-use libc::STDIN_FILENO;
+use drafts::{Draft, MOST_ROWS, ROOM};
 use listed::Printed;
+use std::fs::File;
+use std::{io, str};
 
-fn list_draft(name: &[u8], file: &[u8], d: Draft) {
+fn list_draft(rt: &HostRuntime, name: &[u8], file: &[u8], d: Draft) {
     let end = drafts::file_end(d, file);
-    drafts::print_name(name);
-    listed::print_listing(&file[..end]);
+    drafts::print_name(rt, name);
+    let _ = listed::print_listing(&rt.stdout(), &rt.stderr(), &file[..end]);
+}
+
+// A name that is no text is no file's.
+fn open_named(rt: &HostRuntime, name: &[u8]) -> io::Result<File> {
+    match str::from_utf8(name) {
+        Ok(name) => File::open(rt, name),
+        Err(_) => Err(io::Error::from(io::ErrorKind::InvalidFilename)),
+    }
 }
 
 // A file, or why it cannot be read.
-fn list_named(name: &[u8]) {
-    drafts::print_name(name);
-    let fd = os::open_read(name);
-    if fd < 0 {
-        os::fail(name);
-        return;
+fn list_named(rt: &HostRuntime, name: &[u8]) {
+    let err = rt.stderr();
+    drafts::print_name(rt, name);
+    match open_named(rt, name) {
+        Ok(mut file) => {
+            if let Printed::Unread(e) = listed::print_input(&mut file, &rt.stdout(), &err) {
+                listed::print_failure(&err, name, e);
+            }
+        }
+        Err(e) => listed::print_failure(&err, name, e),
     }
-    if let Printed::Unread = listed::print_input(fd) {
-        os::fail(name);
-    }
-    libc::close(fd);
 }
 
 // What a row does: the draft after it.
-fn take_row(file: &mut [u8; ROOM], d: Draft, row: &[u8]) -> Draft {
+fn take_row(rt: &HostRuntime, file: &mut [u8; ROOM], d: Draft, row: &[u8]) -> Draft {
     let first = drafts::first_of(row);
     let from = drafts::after_blanks(row, 1);
     if first == b'!' {
-        list_draft(&row[from..], file, d);
+        list_draft(rt, &row[from..], file, d);
         return d;
     }
     if first == b'<' {
-        list_named(&row[from..]);
+        list_named(rt, &row[from..]);
         return d;
     }
     drafts::put_row(file, d, row)
 }
 
-fn take_rows(rows: &[u8]) {
+fn take_rows(rt: &HostRuntime, rows: &[u8]) {
     let mut file = [0u8; ROOM];
     let mut draft = drafts::nothing();
     let mut from = 0;
     while from < rows.len() {
         let end = drafts::end_of(rows, from, b'\n');
-        draft = take_row(&mut file, draft, &rows[from..end]);
+        draft = take_row(rt, &mut file, draft, &rows[from..end]);
         if end == rows.len() {
             return;
         }
@@ -57,8 +66,8 @@ fn take_rows(rows: &[u8]) {
     }
 }
 
-fn main() {
-    let mut rows = io::large_buffer();
-    let n = io::read_full(STDIN_FILENO, &mut rows);
-    take_rows(&rows[..n]);
+fn main(rt: HostRuntime) {
+    let mut rows = [0u8; MOST_ROWS];
+    let n = drafts::read_rows(&mut rt.stdin(), &mut rows);
+    take_rows(&rt, &rows[..n]);
 }

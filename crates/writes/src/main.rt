@@ -16,8 +16,7 @@
 ghost use Rattle.std.specs.Prelude.{◌≤◌};
 
 use changes::Case;
-use drafts::{Draft, MARK, ROOM};
-use libc::{STDIN_FILENO, STDOUT_FILENO};
+use drafts::{Draft, MARK, MOST_ROWS, ROOM};
 use rewritten::MOST_WRITTEN;
 use types::{Acceleration, Answer, CR_ALONE, CR_LF, LINES, MOST_ACCELERATIONS, Place};
 
@@ -54,27 +53,28 @@ fn room(n: usize) -> usize
 }
 
 // Of a writing: number, length, and the output's changed bytes.
-fn print_written(number: u32, length: usize, out: &[u8; OUT]) {
-    drafts::print_field(b": write ", number as u64);
-    drafts::print_field(b" ", length as u64);
+fn print_written(rt: &impl Print, number: u32, length: usize, out: &[u8; OUT]) {
+    drafts::print_field(rt, b": write ", number as u64);
+    drafts::print_field(rt, b" ", length as u64);
     let touched = OUT as u64 - drafts::count_bytes(out, MARK);
     if touched == 0 {
-        io::write_all(STDOUT_FILENO, b" untouched");
+        drafts::print_text(rt, b" untouched");
         return;
     }
-    drafts::print_field(b" touched ", touched);
+    drafts::print_field(rt, b" touched ", touched);
 }
 
 // Of a question: number, sum and acceleration.
-fn print_score(number: u32, points: u32, acceleration: u32) {
-    drafts::print_field(b"; ask ", number as u64);
-    drafts::print_field(b" ", points as u64);
-    drafts::print_field(b" ", acceleration as u64);
-    io::write_all(STDOUT_FILENO, b"\n");
+fn print_score(rt: &impl Print, number: u32, points: u32, acceleration: u32) {
+    drafts::print_field(rt, b"; ask ", number as u64);
+    drafts::print_field(rt, b" ", points as u64);
+    drafts::print_field(rt, b" ", acceleration as u64);
+    drafts::print_text(rt, b"\n");
 }
 
 // A writing and a question over parts of the tables.
 fn judge(
+    rt: &impl Print,
     c: Case,
     cr_alone: bool,
     answer: Answer,
@@ -129,12 +129,12 @@ fn judge(
         Place(c.place),
         c.round,
     );
-    print_written(written.number, written.length, &out);
-    print_score(score.number, score.points, score.acceleration);
+    print_written(rt, written.number, written.length, &out);
+    print_score(rt, score.number, score.points, score.acceleration);
 }
 
 // A file read, one thing changed, and the reading judged.
-fn run(c: Case, cr_alone: bool, file: &[u8], other: &[u8]) {
+fn run(rt: &impl Print, c: Case, cr_alone: bool, file: &[u8], other: &[u8]) {
     let mut starts = [0u32; changes::PLAYERS];
     let mut points = [0u32; changes::PLAYERS];
     let mut ranks = [0u32; changes::PLAYERS];
@@ -172,6 +172,7 @@ fn run(c: Case, cr_alone: bool, file: &[u8], other: &[u8]) {
         &mut text,
     );
     judge(
+        rt,
         c,
         cr_alone,
         changes::change_answer(read, other, c),
@@ -187,78 +188,78 @@ fn run(c: Case, cr_alone: bool, file: &[u8], other: &[u8]) {
     );
 }
 
-fn run_case(row: &[u8], file: &[u8], d: Draft, cr_alone: bool) {
+fn run_case(rt: &impl Print, row: &[u8], file: &[u8], d: Draft, cr_alone: bool) {
     let c = changes::case_of(row);
     let end = drafts::file_end(d, file);
     let last = drafts::text_end(d, file, end);
-    drafts::print_rest(row, c.name);
-    run(c, cr_alone, &file[..end], &file[end..last]);
+    drafts::print_rest(rt, row, c.name);
+    run(rt, c, cr_alone, &file[..end], &file[end..last]);
 }
 
-fn show(row: &[u8], file: &[u8], d: Draft, cr_alone: bool) {
+fn show(rt: &impl Print, row: &[u8], file: &[u8], d: Draft, cr_alone: bool) {
     let mut out = [0u8; MOST_WRITTEN];
     let end = drafts::file_end(d, file);
     let done = rewritten::rewrite_file(&file[..end], cr_alone, &mut out);
     let n = done.length;
-    drafts::print_rest(row, 1);
-    io::write_all(STDOUT_FILENO, b"\n");
+    drafts::print_rest(rt, row, 1);
+    drafts::print_text(rt, b"\n");
     if cr_alone {
-        drafts::print_lines(&out[..n]);
+        drafts::print_lines(rt, &out[..n]);
     } else {
-        io::write_all(STDOUT_FILENO, &out[..n]);
+        drafts::print_text(rt, &out[..n]);
     }
 }
 
 // Written, and what was written read and written again.
-fn print_twice(file: &[u8], cr_alone: bool) {
+fn print_twice(rt: &impl Print, file: &[u8], cr_alone: bool) {
     let mut out = [0u8; MOST_WRITTEN];
     let mut again = [0u8; MOST_WRITTEN];
     let first = rewritten::rewrite_file(file, cr_alone, &mut out);
     let n = first.length;
     let second = rewritten::rewrite_file(&out[..n], cr_alone, &mut again);
     let m = second.length;
-    drafts::print_field(b": ", n as u64);
-    drafts::print_field(b" bytes, CR ", drafts::count_bytes(&out[..n], b'\r'));
-    drafts::print_field(b", LF ", drafts::count_bytes(&out[..n], b'\n'));
-    drafts::print_field(b", written again ", m as u64);
+    drafts::print_field(rt, b": ", n as u64);
+    drafts::print_field(rt, b" bytes, CR ", drafts::count_bytes(&out[..n], b'\r'));
+    drafts::print_field(rt, b", LF ", drafts::count_bytes(&out[..n], b'\n'));
+    drafts::print_field(rt, b", written again ", m as u64);
     if drafts::is_same(&out[..n], &again[..m]) {
-        drafts::print_name(b", the same");
+        drafts::print_name(rt, b", the same");
     } else {
-        drafts::print_name(b", others");
+        drafts::print_name(rt, b", others");
     }
 }
 
-fn write_twice(row: &[u8], file: &[u8], d: Draft) {
+fn write_twice(rt: &impl Print, row: &[u8], file: &[u8], d: Draft) {
     let end = drafts::file_end(d, file);
-    drafts::print_rest(row, 1);
-    io::write_all(STDOUT_FILENO, b", CR LF");
-    print_twice(&file[..end], CR_LF);
-    drafts::print_rest(row, 1);
-    io::write_all(STDOUT_FILENO, b", CR alone");
-    print_twice(&file[..end], CR_ALONE);
+    drafts::print_rest(rt, row, 1);
+    drafts::print_text(rt, b", CR LF");
+    print_twice(rt, &file[..end], CR_LF);
+    drafts::print_rest(rt, row, 1);
+    drafts::print_text(rt, b", CR alone");
+    print_twice(rt, &file[..end], CR_ALONE);
 }
 
 // What a row does: the draft after it.
-fn take_row(file: &mut [u8; ROOM], d: Draft, row: &[u8]) -> Draft {
+fn take_row(rt: &impl Print, file: &mut [u8; ROOM], d: Draft, row: &[u8]) -> Draft {
     let first = drafts::first_of(row);
     match first {
-        b'>' => show(row, file, d, CR_LF),
-        b'<' => show(row, file, d, CR_ALONE),
-        b'&' => write_twice(row, file, d),
-        b'!' => run_case(row, file, d, CR_LF),
-        b'?' => run_case(row, file, d, CR_ALONE),
+        b'>' => show(rt, row, file, d, CR_LF),
+        b'<' => show(rt, row, file, d, CR_ALONE),
+        b'&' => write_twice(rt, row, file, d),
+        b'!' => run_case(rt, row, file, d, CR_LF),
+        b'?' => run_case(rt, row, file, d, CR_ALONE),
         _ => return drafts::put_row(file, d, row),
     }
     d
 }
 
-fn take_rows(rows: &[u8]) {
+fn take_rows(rt: &impl Print, rows: &[u8]) {
     let mut file = [0u8; ROOM];
     let mut draft = drafts::nothing();
     let mut from = 0;
     while from < rows.len() {
         let end = drafts::end_of(rows, from, b'\n');
-        draft = take_row(&mut file, draft, &rows[from..end]);
+        draft = take_row(rt, &mut file, draft, &rows[from..end]);
         if end == rows.len() {
             return;
         }
@@ -266,8 +267,8 @@ fn take_rows(rows: &[u8]) {
     }
 }
 
-fn main() {
-    let mut rows = io::large_buffer();
-    let n = io::read_full(STDIN_FILENO, &mut rows);
-    take_rows(&rows[..n]);
+fn main(rt: HostRuntime) {
+    let mut rows = [0u8; MOST_ROWS];
+    let n = drafts::read_rows(&mut rt.stdin(), &mut rows);
+    take_rows(&rt, &rows[..n]);
 }
