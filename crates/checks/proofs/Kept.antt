@@ -2,12 +2,9 @@
 use mathlib.Core.Path.{◌≡◌, refl, sym, ◌∙◌}
 use mathlib.Core.Bool.{Bool, true, false, ◌&&◌, not, and-true, and-false}
 use mathlib.Core.Option.{Option, none, some}
-use mathlib.Core.List.{List, [], ◌∷◌}
+use mathlib.Core.List.{List}
 use Prim.Native.Nat.{ℕ, ◌≤◌, ◌<◌}
-use native.Mathlib.Omega.{arith}
 use borrow.Author.Tests.{le-leb, lt-leb}
-use denote.Enum.Declared.{tag_of}
-use types.Run.{OneOf, miss}
 use lib.Dec.{eqb}
 use lib.ListN.{get_or}
 use Rattle.kit.specs.Lists.{among}
@@ -23,11 +20,8 @@ use Rattle.index.specs.declared.Placed.{Placed}
 use Rattle.index.specs.declared.Placed.TheVariants.{At, Nobody}
 use Rattle.index.specs.Index.{as_placed}
 use Rattle.index.proofs.Told.{told-place, told_nobody}
-use Rattle.checks.specs.declared.LawKind.{LawKind}
-use Rattle.checks.specs.declared.LawKind.TheVariants.{ByeOrGame, Mutual, Fitting, OneU}
 use Rattle.checks.specs.Results.{entry}
 use Rattle.checks.specs.Laws.{four}
-use Rattle.checks.specs.contracts.LawKind.{the_type}
 
 -- ---- a game
 pub game_nobody : (id colour result start : ℕ) (o : Option ℕ) {placed : Placed} → placed ≡ as_placed o → placed ≡ Nobody → false ≡ is_game_by (entry id colour result) start o

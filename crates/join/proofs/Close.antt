@@ -17,7 +17,6 @@ use Rattle.kit.proofs.Firsts.{all_of_at}
 use Rattle.law.specs.Sizes.{most_players, most_rounds}
 use Rattle.law.specs.Columns.{blank, is_blank, part}
 use Rattle.law.specs.Players.{unknown_result, Slot, PlayerLine}
-use Rattle.law.specs.Items.{colour}
 use Rattle.law.specs.Tournament.{Entry, Player, blank_as, normal, no_slot, slot_at, used_rounds, player_of}
 use Rattle.law.specs.Entries.{no_entry, no_player, entry_of}
 use Rattle.law.specs.Spelling.{no_line}

@@ -2,7 +2,7 @@
 use mathlib.Core.Path.{◌≡◌, refl, sym, ap, ◌∙◌, subst}
 use mathlib.Core.Bool.{Bool}
 use mathlib.Core.List.{List, [], ◌∷◌, ◌++◌, map, append_assoc, append-nil}
-use Prim.Native.Nat.{ℕ, suc, ◌+◌, ◌*◌, ◌-◌, ◌≤◌, ◌<◌}
+use Prim.Native.Nat.{ℕ, suc, ◌+◌, ◌*◌, ◌≤◌, ◌<◌}
 use native.Mathlib.Omega.{arith}
 use lib.ListN.{length, set, length-map}
 use lib.Seq.{paste}
@@ -18,7 +18,7 @@ use Rattle.law.specs.Columns.{row_of, part, width, code_field}
 use Rattle.law.specs.Text.{ended}
 use Rattle.law.specs.Accelerations.{acceleration_code}
 use Rattle.law.specs.Players.{PlayerLine, player_code, kept_field}
-use Rattle.law.specs.Items.{Item, text, colour, acceleration, player}
+use Rattle.law.specs.Items.{Item, text, acceleration, player}
 use Rattle.law.specs.Tournament.{Entry, text_in, player_in}
 use Rattle.law.specs.Entries.{no_entry}
 use Rattle.law.specs.Tables.{cells_of, kept_cells, entry_cells, line_cells, cell_of, place_in, round_in, lines_content}

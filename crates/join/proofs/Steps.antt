@@ -3,7 +3,7 @@ use mathlib.Core.Path.{◌≡◌, refl, sym, ap, ap₂, ◌∙◌, subst}
 use mathlib.Core.Bool.{Bool, true, false, cond, ◌&&◌, not}
 use mathlib.Core.Option.{Option, none, some}
 use mathlib.Core.List.{List, [], ◌∷◌, ◌++◌, append-nil}
-use Prim.Native.Nat.{ℕ, ◌+◌, ◌-◌}
+use Prim.Native.Nat.{ℕ, ◌+◌}
 use native.Mathlib.Omega.{arith}
 use lib.Dec.{eqb, ltb}
 use lib.ListN.{length, get_or, set, replicate, length-append, length-replicate, get_or-map}
@@ -31,7 +31,7 @@ use Rattle.law.specs.Spelling.{is_sound, SpellsLine, no_line}
 use Rattle.law.specs.Refusals.{bad_byte, no_cr, too_long, not_listed, bad_field, again, too_many, line_faults, is_again, is_too_many, only_if, lines_of, line_fault_number}
 use Rattle.law.proofs.RecordsRead.{text_of, rounds_of_row, colour_of, given_of, acceleration_of, player_of, text-line, rounds-line, colour-line, scoring-line, acceleration-line, player-line, item_as, item_of}
 use Rattle.law.proofs.ColumnLaws.{cells-blanks}
-use Rattle.law.proofs.Faults.{line_items, line, lines-spelled, is_unlisted, test_after, test_line}
+use Rattle.law.proofs.Faults.{line_items, lines-spelled, is_unlisted, test_after, test_line}
 use Rattle.law.proofs.LinesRead.{is_new, is_few, LinesGood, each_snoc}
 use Rattle.law.proofs.LinesLawful.{fine, colours_fine, players_fine}
 use Rattle.law.proofs.NewAndFew.{few-fits}

@@ -1,10 +1,8 @@
-use mathlib.Core.Path.{◌≡◌, refl}
-use Prim.Native.Nat.{◌+◌, ◌-◌}
-use lib.ListN.{length, get_or}
+use mathlib.Core.Path.{refl}
 use borrow.Author.Rules.{rules}
 use Rattle.law.specs.Columns.{width}
 use Rattle.law.specs.Players.{kept_field}
-use Rattle.cells.proofs.Turns.{Filled, filled_none, filled_next, filled-all, part_is}
+use Rattle.cells.proofs.Turns.{filled_none, filled_next, filled-all, part_is}
 use Rattle.cells.proofs.get_kept.Goals as goal
 
 pub loop-i-init : goal.loop-i-init

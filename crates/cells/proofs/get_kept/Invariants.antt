@@ -1,11 +1,10 @@
 -- `cells::get_kept` meets its contract. The loop's invariant: the first i bytes are copied. Assumes nothing.
-use mathlib.Core.Path.{◌≡◌, refl}
+use mathlib.Core.Path.{◌≡◌}
 use Prim.Native.Nat.{◌+◌, ◌-◌}
 use lib.ListN.{length, get_or}
-use borrow.Author.Rules.{rules}
 use Rattle.law.specs.Columns.{width}
 use Rattle.law.specs.Players.{kept_field}
-use Rattle.cells.proofs.Turns.{Filled, filled_none, filled_next, filled-all, part_is}
+use Rattle.cells.proofs.Turns.{Filled}
 use Rattle.cells.proofs.get_kept.Given as goal
 
 abbrev pub invariant-loop-i : goal.invariant-loop-i

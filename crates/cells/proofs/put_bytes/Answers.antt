@@ -1,6 +1,5 @@
-use Prim.Native.Nat.{◌-◌}
 use borrow.Author.Rules.{rules}
-use Rattle.cells.proofs.Turns.{Copied, copied_none, copied_next, copied_all}
+use Rattle.cells.proofs.Turns.{copied_none, copied_next, copied_all}
 use Rattle.cells.proofs.put_bytes.Goals as goal
 
 pub loop-i-init : goal.loop-i-init

@@ -1,7 +1,6 @@
 -- `cells::put_bytes` meets its contract. The loop's invariant: the first i bytes are copied. Assumes nothing.
 use Prim.Native.Nat.{◌-◌}
-use borrow.Author.Rules.{rules}
-use Rattle.cells.proofs.Turns.{Copied, copied_none, copied_next, copied_all}
+use Rattle.cells.proofs.Turns.{Copied}
 use Rattle.cells.proofs.put_bytes.Given as goal
 
 abbrev pub invariant-loop-i : goal.invariant-loop-i

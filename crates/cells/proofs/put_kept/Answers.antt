@@ -1,8 +1,5 @@
-use Prim.Native.Nat.{◌-◌}
 use borrow.Author.Rules.{rules}
-use Rattle.law.specs.Columns.{width}
-use Rattle.law.specs.Players.{kept_field}
-use Rattle.cells.proofs.Turns.{Copied, copied_none, copied_next, copied_all}
+use Rattle.cells.proofs.Turns.{copied_none, copied_next, copied_all}
 use Rattle.cells.proofs.put_kept.Goals as goal
 
 pub loop-i-init : goal.loop-i-init

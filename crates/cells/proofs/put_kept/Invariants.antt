@@ -1,9 +1,8 @@
 -- `cells::put_kept` meets its contract. The loop's invariant: the first i bytes are copied. Assumes nothing.
 use Prim.Native.Nat.{◌-◌}
-use borrow.Author.Rules.{rules}
 use Rattle.law.specs.Columns.{width}
 use Rattle.law.specs.Players.{kept_field}
-use Rattle.cells.proofs.Turns.{Copied, copied_none, copied_next, copied_all}
+use Rattle.cells.proofs.Turns.{Copied}
 use Rattle.cells.proofs.put_kept.Given as goal
 
 abbrev pub invariant-loop-i : goal.invariant-loop-i

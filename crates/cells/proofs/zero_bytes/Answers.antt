@@ -1,6 +1,5 @@
-use Prim.Native.Nat.{◌-◌}
 use borrow.Author.Rules.{rules}
-use Rattle.cells.proofs.Turns.{Filled, filled_none, filled_next, filled-all}
+use Rattle.cells.proofs.Turns.{filled_none, filled_next, filled-all}
 use Rattle.cells.proofs.zero_bytes.Goals as goal
 
 pub loop-i-init : goal.loop-i-init

@@ -1,7 +1,6 @@
 -- `cells::zero_numbers` meets its contract. The loop's invariant: the first i cells are zero. Assumes nothing.
 use Prim.Native.Nat.{◌-◌}
-use borrow.Author.Rules.{rules}
-use Rattle.cells.proofs.Turns.{Filled, filled_none, filled_next, filled-all}
+use Rattle.cells.proofs.Turns.{Filled}
 use Rattle.cells.proofs.zero_numbers.Given as goal
 
 abbrev pub invariant-loop-i : goal.invariant-loop-i

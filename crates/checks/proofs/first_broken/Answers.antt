@@ -1,5 +1,4 @@
 -- `checks::first_broken` meets its contract: the search with flags for one U a round, the other one for the other laws. Assumes nothing.
-use borrow.Author.Rules.{rules}
 use Rattle.checks.proofs.first_broken.Goals as goal
 
 pub returns-in-OneU : goal.returns-in-OneU

@@ -1,13 +1,8 @@
-use borrow.Author.Rules.{rules}
 use mathlib.Core.Path.{sym, ap, ◌∙◌}
 use mathlib.Core.List.{[]}
-use Prim.Native.Nat.{◌-◌}
-use Rattle.law.specs.Entries.{one_U}
-use Rattle.join.specs.Check.{broken_cell}
 use Rattle.turns.specs.Found.{as_found_turn}
-use Rattle.checks.specs.Laws.{four}
-use Rattle.turns.proofs.Seeks.{Seeking, seek_none, seek_hit, seek_more, seek_end}
-use Rattle.checks.proofs.Flags.{Flags, flags-none, flags_more, second_is, u_alone}
+use Rattle.turns.proofs.Seeks.{seek_none, seek_hit, seek_more, seek_end}
+use Rattle.checks.proofs.Flags.{flags-none, flags_more, second_is, u_alone}
 use Rattle.checks.proofs.first_second_u.Goals as goal
 
 pub loop-k-init : goal.loop-k-init

@@ -1,14 +1,11 @@
 -- `checks::first_second_u` meets its contract. The loop's invariant: none of the first k turns has a second U, and the flags tell of them. Assumes nothing.
-use borrow.Author.Rules.{rules}
-use mathlib.Core.Path.{sym, ap, ◌∙◌}
 use mathlib.Core.List.{[]}
 use Prim.Native.Nat.{◌-◌}
 use Rattle.law.specs.Entries.{one_U}
 use Rattle.join.specs.Check.{broken_cell}
-use Rattle.turns.specs.Found.{as_found_turn}
 use Rattle.checks.specs.Laws.{four}
-use Rattle.turns.proofs.Seeks.{Seeking, seek_none, seek_hit, seek_more, seek_end}
-use Rattle.checks.proofs.Flags.{Flags, flags-none, flags_more, second_is, u_alone}
+use Rattle.turns.proofs.Seeks.{Seeking}
+use Rattle.checks.proofs.Flags.{Flags}
 use Rattle.checks.proofs.first_second_u.Given as goal
 
 abbrev pub invariant-loop-k : goal.invariant-loop-k

@@ -1,11 +1,7 @@
-use borrow.Author.Rules.{rules}
 use mathlib.Core.Path.{sym, ◌∙◌}
-use Prim.Native.Nat.{◌-◌}
 use native.Mathlib.Omega.{arith}
-use Rattle.join.specs.Check.{broken_cell}
-use Rattle.checks.specs.Laws.{as_law, four}
 use Rattle.turns.specs.Found.{as_found_turn}
-use Rattle.turns.proofs.Seeks.{Seeking, seek_none, seek_hit, seek_more, seek_end}
+use Rattle.turns.proofs.Seeks.{seek_none, seek_hit, seek_more, seek_end}
 use Rattle.checks.proofs.first_unkept.Goals as goal
 
 pub loop-k-init : goal.loop-k-init

@@ -1,12 +1,8 @@
 -- `checks::first_unkept` meets its contract. The loop's invariant: the entries of the first k turns keep the law. Assumes nothing.
-use borrow.Author.Rules.{rules}
-use mathlib.Core.Path.{sym, ◌∙◌}
 use Prim.Native.Nat.{◌-◌}
-use native.Mathlib.Omega.{arith}
 use Rattle.join.specs.Check.{broken_cell}
 use Rattle.checks.specs.Laws.{as_law, four}
-use Rattle.turns.specs.Found.{as_found_turn}
-use Rattle.turns.proofs.Seeks.{Seeking, seek_none, seek_hit, seek_more, seek_end}
+use Rattle.turns.proofs.Seeks.{Seeking}
 use Rattle.checks.proofs.first_unkept.Given as goal
 
 abbrev pub invariant-loop-k : goal.invariant-loop-k

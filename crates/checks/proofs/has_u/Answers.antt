@@ -1,5 +1,4 @@
 -- `checks::has_u` meets its contract. Assumes nothing.
-use borrow.Author.Rules.{rules}
 use mathlib.Core.Path.{refl, ◌∙◌}
 use Rattle.join.specs.Check.{has_uat}
 use Rattle.checks.proofs.has_u.Goals as goal

@@ -1,5 +1,4 @@
 -- `checks::is_broken` meets its contract. Past the last round no entry breaks a law. Assumes nothing.
-use borrow.Author.Rules.{rules}
 use native.Mathlib.Omega.{arith}
 use Rattle.checks.proofs.Kept.{broken_past, broken_here}
 use Rattle.checks.proofs.is_broken.Goals as goal

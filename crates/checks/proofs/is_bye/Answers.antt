@@ -1,5 +1,4 @@
 -- `checks::is_bye` meets its contract. Assumes nothing.
-use borrow.Author.Rules.{rules}
 use mathlib.Core.Path.{refl}
 use Rattle.law.specs.Entries.{is_bye}
 use Rattle.checks.proofs.is_bye.Goals as goal

@@ -1,5 +1,4 @@
 -- `checks::is_game` meets its contract. Assumes nothing.
-use borrow.Author.Rules.{rules}
 use Rattle.checks.proofs.Kept.{game_nobody, game_somebody}
 use Rattle.checks.proofs.is_game.Goals as goal
 

@@ -1,5 +1,4 @@
 -- `checks::keeps_at` meets its contract. One function a law, and none for the law of one U a round. Assumes nothing.
-use borrow.Author.Rules.{rules}
 use Rattle.checks.proofs.keeps_at.Goals as goal
 
 pub returns-in-ByeOrGame : goal.returns-in-ByeOrGame

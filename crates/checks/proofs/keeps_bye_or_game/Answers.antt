@@ -1,5 +1,4 @@
 -- `checks::keeps_bye_or_game` meets its contract. Assumes nothing.
-use borrow.Author.Rules.{rules}
 use Rattle.checks.proofs.Kept.{bye-kept, game-kept}
 use Rattle.checks.proofs.keeps_bye_or_game.Goals as goal
 

@@ -1,5 +1,4 @@
 -- `checks::keeps_mutual` meets its contract. Assumes nothing.
-use borrow.Author.Rules.{rules}
 use native.Mathlib.Omega.{arith}
 use Rattle.index.proofs.Told.{told-player}
 use Rattle.checks.proofs.Kept.{mutual_alone, mutual_kept}

@@ -1,8 +1,4 @@
-use borrow.Author.Rules.{rules}
-use Prim.Native.Nat.{◌*◌, ◌-◌}
 use native.Mathlib.Omega.{arith}
-use Rattle.law.specs.Sizes.{most_rounds}
-use Rattle.closings.specs.Closing.{Closing}
 use Rattle.closings.proofs.Closes.{close_none, player_more, close_end}
 use Rattle.closings.proofs.close.Goals as goal
 

@@ -1,10 +1,7 @@
 -- `closings::close` meets its contract. The loop's invariant: the cells of the first p players are closed. Assumes nothing.
-use borrow.Author.Rules.{rules}
 use Prim.Native.Nat.{◌*◌, ◌-◌}
-use native.Mathlib.Omega.{arith}
 use Rattle.law.specs.Sizes.{most_rounds}
 use Rattle.closings.specs.Closing.{Closing}
-use Rattle.closings.proofs.Closes.{close_none, player_more, close_end}
 use Rattle.closings.proofs.close.Given as goal
 
 abbrev pub invariant-loop-p : goal.invariant-loop-p

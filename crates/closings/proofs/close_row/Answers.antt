@@ -1,8 +1,5 @@
-use borrow.Author.Rules.{rules}
-use Prim.Native.Nat.{◌-◌}
 use native.Mathlib.Omega.{arith}
-use Rattle.law.specs.Sizes.{most_rounds}
-use Rattle.closings.proofs.Closes.{Row, row_none, row_more, row_end}
+use Rattle.closings.proofs.Closes.{row_none, row_more, row_end}
 use Rattle.closings.proofs.close_row.Goals as goal
 
 pub loop-j-init : goal.loop-j-init

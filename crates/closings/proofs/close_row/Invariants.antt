@@ -1,9 +1,7 @@
 -- `closings::close_row` meets its contract. The loop's invariant: the cells of the first j rounds are closed. Assumes nothing.
-use borrow.Author.Rules.{rules}
 use Prim.Native.Nat.{◌-◌}
-use native.Mathlib.Omega.{arith}
 use Rattle.law.specs.Sizes.{most_rounds}
-use Rattle.closings.proofs.Closes.{Row, row_none, row_more, row_end}
+use Rattle.closings.proofs.Closes.{Row}
 use Rattle.closings.proofs.close_row.Given as goal
 
 abbrev pub invariant-loop-j : goal.invariant-loop-j

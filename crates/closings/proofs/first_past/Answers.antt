@@ -1,9 +1,6 @@
-use borrow.Author.Rules.{rules}
 use mathlib.Core.Path.{sym, ◌∙◌}
-use Prim.Native.Nat.{◌-◌}
-use Rattle.join.specs.Check.{past_cell}
 use Rattle.turns.specs.Found.{as_found_turn}
-use Rattle.turns.proofs.Seeks.{Seeking, seek_none, seek_hit, seek_more, seek_end}
+use Rattle.turns.proofs.Seeks.{seek_none, seek_hit, seek_more, seek_end}
 use Rattle.closings.proofs.first_past.Goals as goal
 
 pub loop-k-init : goal.loop-k-init

@@ -1,10 +1,7 @@
 -- `closings::first_past` meets its contract. The loop's invariant: none of the first k turns is past. Assumes nothing.
-use borrow.Author.Rules.{rules}
-use mathlib.Core.Path.{sym, ◌∙◌}
 use Prim.Native.Nat.{◌-◌}
 use Rattle.join.specs.Check.{past_cell}
-use Rattle.turns.specs.Found.{as_found_turn}
-use Rattle.turns.proofs.Seeks.{Seeking, seek_none, seek_hit, seek_more, seek_end}
+use Rattle.turns.proofs.Seeks.{Seeking}
 use Rattle.closings.proofs.first_past.Given as goal
 
 abbrev pub invariant-loop-k : goal.invariant-loop-k

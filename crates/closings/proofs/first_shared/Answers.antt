@@ -1,9 +1,6 @@
-use borrow.Author.Rules.{rules}
 use mathlib.Core.Path.{sym, ◌∙◌}
-use Prim.Native.Nat.{◌-◌}
-use Rattle.join.specs.Check.{shared_record}
 use Rattle.turns.specs.Found.{as_found_record}
-use Rattle.turns.proofs.Seeks.{Seeking, seek_none, seek_hit, seek_more, seek_end}
+use Rattle.turns.proofs.Seeks.{seek_none, seek_hit, seek_more, seek_end}
 use Rattle.closings.proofs.first_shared.Goals as goal
 
 pub loop-j-init : goal.loop-j-init

@@ -1,10 +1,7 @@
 -- `closings::first_shared` meets its contract. The loop's invariant: none of the first j records shares with an earlier one. Assumes nothing.
-use borrow.Author.Rules.{rules}
-use mathlib.Core.Path.{sym, ◌∙◌}
 use Prim.Native.Nat.{◌-◌}
 use Rattle.join.specs.Check.{shared_record}
-use Rattle.turns.specs.Found.{as_found_record}
-use Rattle.turns.proofs.Seeks.{Seeking, seek_none, seek_hit, seek_more, seek_end}
+use Rattle.turns.proofs.Seeks.{Seeking}
 use Rattle.closings.proofs.first_shared.Given as goal
 
 abbrev pub invariant-loop-j : goal.invariant-loop-j

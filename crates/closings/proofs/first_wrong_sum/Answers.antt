@@ -1,11 +1,6 @@
-use borrow.Author.Rules.{rules}
 use mathlib.Core.Path.{sym, ◌∙◌}
-use mathlib.Core.List.{List}
-use Prim.Native.Nat.{ℕ, ◌-◌}
-use Rattle.join.specs.Check.{wrong_sum}
 use Rattle.index.specs.Index.{as_placed}
-use Rattle.results.specs.Order.{AreWorths}
-use Rattle.turns.proofs.Seeks.{Seeking, seek_none, seek_hit, seek_more, seek_end}
+use Rattle.turns.proofs.Seeks.{seek_none, seek_hit, seek_more, seek_end}
 use Rattle.closings.proofs.first_wrong_sum.Goals as goal
 
 pub loop-p-init : goal.loop-p-init

@@ -1,12 +1,9 @@
 -- `closings::first_wrong_sum` meets its contract. The loop's invariant: the first p players state their sums. Assumes nothing.
-use borrow.Author.Rules.{rules}
-use mathlib.Core.Path.{sym, ◌∙◌}
 use mathlib.Core.List.{List}
 use Prim.Native.Nat.{ℕ, ◌-◌}
 use Rattle.join.specs.Check.{wrong_sum}
-use Rattle.index.specs.Index.{as_placed}
 use Rattle.results.specs.Order.{AreWorths}
-use Rattle.turns.proofs.Seeks.{Seeking, seek_none, seek_hit, seek_more, seek_end}
+use Rattle.turns.proofs.Seeks.{Seeking}
 use Rattle.closings.proofs.first_wrong_sum.Given as goal
 
 abbrev pub invariant-loop-p : goal.invariant-loop-p

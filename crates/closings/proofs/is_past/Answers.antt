@@ -1,5 +1,4 @@
 -- `closings::is_past` meets its contract. Assumes nothing.
-use borrow.Author.Rules.{rules}
 use mathlib.Core.Path.{refl}
 use Rattle.join.specs.Check.{past_cell}
 use Rattle.closings.proofs.is_past.Goals as goal

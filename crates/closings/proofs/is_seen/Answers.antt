@@ -1,5 +1,4 @@
 -- `closings::is_seen` meets its contract. Assumes nothing.
-use borrow.Author.Rules.{rules}
 use mathlib.Core.Path.{refl}
 use Rattle.closings.proofs.is_seen.Goals as goal
 

@@ -1,5 +1,4 @@
 -- `closings::is_wrong_sum` meets its contract. Assumes nothing.
-use borrow.Author.Rules.{rules}
 use mathlib.Core.Path.{refl}
 use Rattle.join.specs.Check.{wrong_sum}
 use Rattle.closings.proofs.is_wrong_sum.Goals as goal

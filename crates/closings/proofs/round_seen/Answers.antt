@@ -1,5 +1,4 @@
 -- `closings::round_seen` meets its contract. Assumes nothing.
-use borrow.Author.Rules.{rules}
 use mathlib.Core.Path.{refl, sym, ◌∙◌}
 use Rattle.join.specs.Check.{round_seen}
 use Rattle.closings.proofs.round_seen.Goals as goal

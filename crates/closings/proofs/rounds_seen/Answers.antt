@@ -1,7 +1,5 @@
-use borrow.Author.Rules.{rules}
-use Prim.Native.Nat.{◌-◌}
-use Rattle.join.specs.Check.{round_seen, rounds_seen}
-use Rattle.turns.proofs.Seeks.{Climbing, climb_none, climb_more, climb_end}
+use Rattle.join.specs.Check.{rounds_seen}
+use Rattle.turns.proofs.Seeks.{climb_none, climb_more, climb_end}
 use Rattle.closings.proofs.rounds_seen.Goals as goal
 
 pub loop-k-init : goal.loop-k-init

@@ -1,8 +1,7 @@
 -- `closings::rounds_seen` meets its contract. The loop's invariant: the greatest of the first k turns. Assumes nothing.
-use borrow.Author.Rules.{rules}
 use Prim.Native.Nat.{◌-◌}
-use Rattle.join.specs.Check.{round_seen, rounds_seen}
-use Rattle.turns.proofs.Seeks.{Climbing, climb_none, climb_more, climb_end}
+use Rattle.join.specs.Check.{round_seen}
+use Rattle.turns.proofs.Seeks.{Climbing}
 use Rattle.closings.proofs.rounds_seen.Given as goal
 
 abbrev pub invariant-loop-k : goal.invariant-loop-k

@@ -1,5 +1,4 @@
 -- `closings::shares` meets its contract: the rounds overlap, and the start numbers do. Assumes nothing.
-use borrow.Author.Rules.{rules}
 use mathlib.Core.Path.{refl}
 use Rattle.law.specs.Accelerations as accelerations
 use Rattle.closings.proofs.shares.Goals as goal

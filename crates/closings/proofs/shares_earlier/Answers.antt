@@ -1,10 +1,5 @@
-use borrow.Author.Rules.{rules}
-use Prim.Native.Nat.{◌-◌}
-use lib.ListN.{get_or}
-use Rattle.law.specs.Accelerations.{shares}
-use Rattle.law.specs.Lawful.{no_acceleration}
 use Rattle.join.specs.Check.{shared_record}
-use Rattle.turns.proofs.Seeks.{Asking, ask_none, ask_more, ask_end}
+use Rattle.turns.proofs.Seeks.{ask_none, ask_more, ask_end}
 use Rattle.closings.proofs.shares_earlier.Goals as goal
 
 pub loop-i-init : goal.loop-i-init

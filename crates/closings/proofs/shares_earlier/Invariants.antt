@@ -1,11 +1,9 @@
 -- `closings::shares_earlier` meets its contract. The loop's invariant: whether one of the first i shares. Assumes nothing.
-use borrow.Author.Rules.{rules}
 use Prim.Native.Nat.{◌-◌}
 use lib.ListN.{get_or}
 use Rattle.law.specs.Accelerations.{shares}
 use Rattle.law.specs.Lawful.{no_acceleration}
-use Rattle.join.specs.Check.{shared_record}
-use Rattle.turns.proofs.Seeks.{Asking, ask_none, ask_more, ask_end}
+use Rattle.turns.proofs.Seeks.{Asking}
 use Rattle.closings.proofs.shares_earlier.Given as goal
 
 abbrev pub invariant-loop-i : goal.invariant-loop-i

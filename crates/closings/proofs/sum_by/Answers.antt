@@ -1,14 +1,8 @@
-use borrow.Author.Rules.{rules}
 use mathlib.Core.Path.{refl, ◌∙◌}
-use mathlib.Core.List.{List}
-use Prim.Native.Nat.{ℕ, ◌+◌, ◌*◌, ◌-◌, ◌≤◌}
 use native.Mathlib.Omega.{arith}
 use lib.ListN.{get_or}
-use Rattle.law.specs.Sizes.{most_points}
-use Rattle.law.specs.Tables.{cell_of}
-use Rattle.join.specs.Check.{worth_by, sum_at}
-use Rattle.results.specs.Order.{AreWorths}
-use Rattle.turns.proofs.Seeks.{Adding, add_none, add_more, add-end}
+use Rattle.join.specs.Check.{sum_at}
+use Rattle.turns.proofs.Seeks.{add_none, add_more, add-end}
 use Rattle.closings.proofs.Worths.{worth-small}
 use Rattle.closings.proofs.sum_by.Goals as goal
 

@@ -1,16 +1,12 @@
 -- `closings::sum_by` meets its contract. The loop's invariant: the sum of the first j rounds, at most 999 a round. Assumes nothing.
-use borrow.Author.Rules.{rules}
-use mathlib.Core.Path.{refl, ◌∙◌}
 use mathlib.Core.List.{List}
 use Prim.Native.Nat.{ℕ, ◌+◌, ◌*◌, ◌-◌, ◌≤◌}
-use native.Mathlib.Omega.{arith}
 use lib.ListN.{get_or}
 use Rattle.law.specs.Sizes.{most_points}
 use Rattle.law.specs.Tables.{cell_of}
-use Rattle.join.specs.Check.{worth_by, sum_at}
+use Rattle.join.specs.Check.{worth_by}
 use Rattle.results.specs.Order.{AreWorths}
-use Rattle.turns.proofs.Seeks.{Adding, add_none, add_more, add-end}
-use Rattle.closings.proofs.Worths.{worth-small}
+use Rattle.turns.proofs.Seeks.{Adding}
 use Rattle.closings.proofs.sum_by.Given as goal
 
 abbrev pub invariant-loop-j : goal.invariant-loop-j

@@ -1,5 +1,4 @@
 -- `closings::sum_of` meets its contract: the worths are those by the values. Assumes nothing.
-use borrow.Author.Rules.{rules}
 use Rattle.closings.proofs.sum_of.Goals as goal
 
 pub returns : goal.returns

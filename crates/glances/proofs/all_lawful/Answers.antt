@@ -1,5 +1,4 @@
 -- `glances::all_lawful` meets its contract: where every entry keeps the laws nothing is found. Assumes nothing.
-use borrow.Author.Tests.{not-false}
 use Rattle.kit.proofs.Bools.{clash}
 use Rattle.checks.specs.Laws.{four}
 use Rattle.glances.proofs.Laws.{none_found}

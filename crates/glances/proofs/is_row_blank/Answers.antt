@@ -1,12 +1,5 @@
 use native.Mathlib.Omega.{arith}
-use mathlib.Core.Path.{◌≡◌}
-use mathlib.Core.Bool.{true}
-use Prim.Native.Nat.{ℕ, ◌+◌, ◌-◌, ◌≤◌, ◌<◌}
-use lib.ListN.{get_or}
-use Rattle.law.specs.Sizes.{most_rounds}
-use Rattle.law.specs.Tables.{cell_of}
 use Rattle.glances.proofs.Laws.{blank_more}
-use borrow.Author.Rules.{rules}
 use Rattle.glances.proofs.is_row_blank.Goals as goal
 
 pub loop-j-init : goal.loop-j-init

@@ -1,13 +1,10 @@
 -- `glances::is_row_blank` meets its contract. The loop's invariant: the cells up to round j are zero where good says so. Assumes nothing.
-use native.Mathlib.Omega.{arith}
 use mathlib.Core.Path.{◌≡◌}
 use mathlib.Core.Bool.{true}
 use Prim.Native.Nat.{ℕ, ◌+◌, ◌-◌, ◌≤◌, ◌<◌}
 use lib.ListN.{get_or}
 use Rattle.law.specs.Sizes.{most_rounds}
 use Rattle.law.specs.Tables.{cell_of}
-use Rattle.glances.proofs.Laws.{blank_more}
-use borrow.Author.Rules.{rules}
 use Rattle.glances.proofs.is_row_blank.Given as goal
 
 abbrev pub invariant-loop-j : goal.invariant-loop-j

@@ -1,8 +1,6 @@
 -- `glances::keeps_entry` meets its contract. Assumes nothing.
 use mathlib.Core.Path.{sym, ◌∙◌}
 use native.Mathlib.Omega.{arith}
-use borrow.Author.Rules.{rules}
-use borrow.Author.Tests.{not-false}
 use Rattle.kit.proofs.Bools.{clash}
 use Rattle.index.proofs.Told.{told-player}
 use Rattle.glances.proofs.Entries.{bye-keeps, game-keeps}

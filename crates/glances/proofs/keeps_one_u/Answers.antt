@@ -1,8 +1,6 @@
 use native.Mathlib.Omega.{arith}
-use Prim.Native.Nat.{◌-◌}
 use Rattle.kit.proofs.Bools.{clash}
-use Rattle.glances.proofs.Once.{Onced, once-none, once_more}
-use borrow.Author.Rules.{rules}
+use Rattle.glances.proofs.Once.{once-none, once_more}
 use Rattle.glances.proofs.keeps_one_u.Goals as goal
 
 pub loop-p-init : goal.loop-p-init

@@ -1,9 +1,6 @@
 -- `glances::keeps_one_u` meets its contract. The loop's invariant: no two of the first p players have U in one round, and the flags tell of them. Assumes nothing.
-use native.Mathlib.Omega.{arith}
 use Prim.Native.Nat.{◌-◌}
-use Rattle.kit.proofs.Bools.{clash}
-use Rattle.glances.proofs.Once.{Onced, once-none, once_more}
-use borrow.Author.Rules.{rules}
+use Rattle.glances.proofs.Once.{Onced}
 use Rattle.glances.proofs.keeps_one_u.Given as goal
 
 abbrev pub invariant-loop-p : goal.invariant-loop-p

@@ -1,13 +1,10 @@
 use mathlib.Core.Path.{sym}
 use native.Mathlib.Omega.{arith}
-use Prim.Native.Nat.{ℕ, ◌+◌, ◌-◌}
-use borrow.Author.Tests.{not-false}
+use Prim.Native.Nat.{◌+◌}
 use borrow.Author.Count.{below_more}
 use Rattle.kit.proofs.Bools.{clash}
-use Rattle.index.specs.Index.{Indexed}
 use Rattle.checks.specs.Laws.{four}
-use Rattle.glances.specs.Glance.{KeepsEntry, KeepsRow}
-use borrow.Author.Rules.{rules}
+use Rattle.glances.specs.Glance.{KeepsEntry}
 use Rattle.glances.proofs.keeps_row.Goals as goal
 
 pub loop-j-init : goal.loop-j-init

@@ -1,14 +1,8 @@
 -- `glances::keeps_row` meets its contract. The loop's invariant: the entries of the first j rounds keep the laws. Assumes nothing.
-use mathlib.Core.Path.{sym}
-use native.Mathlib.Omega.{arith}
-use Prim.Native.Nat.{ℕ, ◌+◌, ◌-◌}
-use borrow.Author.Tests.{not-false}
-use borrow.Author.Count.{below_more}
-use Rattle.kit.proofs.Bools.{clash}
+use Prim.Native.Nat.{ℕ, ◌-◌}
 use Rattle.index.specs.Index.{Indexed}
 use Rattle.checks.specs.Laws.{four}
-use Rattle.glances.specs.Glance.{KeepsEntry, KeepsRow}
-use borrow.Author.Rules.{rules}
+use Rattle.glances.specs.Glance.{KeepsRow}
 use Rattle.glances.proofs.keeps_row.Given as goal
 
 abbrev pub invariant-loop-j : goal.invariant-loop-j

@@ -1,11 +1,8 @@
 use native.Mathlib.Omega.{arith}
-use Prim.Native.Nat.{◌-◌}
-use borrow.Author.Tests.{not-false}
 use borrow.Author.Count.{below_more}
 use Rattle.kit.proofs.Bools.{clash}
 use Rattle.checks.specs.Laws.{four}
-use Rattle.glances.specs.Glance.{KeepsRow, KeepsRows}
-use borrow.Author.Rules.{rules}
+use Rattle.glances.specs.Glance.{KeepsRow}
 use Rattle.glances.proofs.keeps_rows.Goals as goal
 
 pub loop-p-init : goal.loop-p-init

@@ -1,12 +1,7 @@
 -- `glances::keeps_rows` meets its contract. The loop's invariant: the entries of the first p players keep the laws. Assumes nothing.
-use native.Mathlib.Omega.{arith}
 use Prim.Native.Nat.{◌-◌}
-use borrow.Author.Tests.{not-false}
-use borrow.Author.Count.{below_more}
-use Rattle.kit.proofs.Bools.{clash}
 use Rattle.checks.specs.Laws.{four}
-use Rattle.glances.specs.Glance.{KeepsRow, KeepsRows}
-use borrow.Author.Rules.{rules}
+use Rattle.glances.specs.Glance.{KeepsRows}
 use Rattle.glances.proofs.keeps_rows.Given as goal
 
 abbrev pub invariant-loop-p : goal.invariant-loop-p

@@ -1,11 +1,8 @@
 use native.Mathlib.Omega.{arith}
-use Prim.Native.Nat.{ℕ, ◌-◌, ◌<◌}
-use borrow.Author.Tests.{not-false}
 use borrow.Author.Count.{below_more}
 use Rattle.kit.proofs.Bools.{clash}
 use Rattle.glances.specs.Glance.{BlankRow}
 use Rattle.glances.proofs.Laws as laws
-use borrow.Author.Rules.{rules}
 use Rattle.glances.proofs.none_past.Goals as goal
 
 pub loop-p-init : goal.loop-p-init

@@ -1,12 +1,6 @@
 -- `glances::none_past` meets its contract. The loop's invariant: the first p players have nothing past the rounds. Assumes nothing.
-use native.Mathlib.Omega.{arith}
 use Prim.Native.Nat.{ℕ, ◌-◌, ◌<◌}
-use borrow.Author.Tests.{not-false}
-use borrow.Author.Count.{below_more}
-use Rattle.kit.proofs.Bools.{clash}
 use Rattle.glances.specs.Glance.{BlankRow}
-use Rattle.glances.proofs.Laws as laws
-use borrow.Author.Rules.{rules}
 use Rattle.glances.proofs.none_past.Given as goal
 
 abbrev pub invariant-loop-p : goal.invariant-loop-p

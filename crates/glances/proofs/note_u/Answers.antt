@@ -1,8 +1,5 @@
-use borrow.Author.Rules.{rules}
 use mathlib.Core.Path.{◌∙◌}
-use Prim.Native.Nat.{◌-◌}
-use Rattle.law.specs.Sizes.{most_rounds}
-use Rattle.glances.proofs.Once.{Noting, note_none, note_more, note_end, u_is}
+use Rattle.glances.proofs.Once.{note_none, note_more, note_end, u_is}
 use Rattle.glances.proofs.note_u.Goals as goal
 
 pub loop-j-init : goal.loop-j-init

@@ -1,9 +1,7 @@
 -- `glances::note_u` meets its contract. The loop's invariant: the flags of the first j rounds are noted. Assumes nothing.
-use borrow.Author.Rules.{rules}
-use mathlib.Core.Path.{◌∙◌}
 use Prim.Native.Nat.{◌-◌}
 use Rattle.law.specs.Sizes.{most_rounds}
-use Rattle.glances.proofs.Once.{Noting, note_none, note_more, note_end, u_is}
+use Rattle.glances.proofs.Once.{Noting}
 use Rattle.glances.proofs.note_u.Given as goal
 
 abbrev pub invariant-loop-j : goal.invariant-loop-j

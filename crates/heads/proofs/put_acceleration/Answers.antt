@@ -2,7 +2,6 @@
 use mathlib.Core.Path.{refl}
 use mathlib.Core.List.{List, [], ◌++◌}
 use Prim.Native.Nat.{ℕ}
-use borrow.Author.Rules.{rules}
 use Rattle.law.specs.Writing.{blanks, noughts, filled}
 use Rattle.puts.proofs.Puts.{puts_as, puts_then, puts_last, room-left, room_next}
 use Rattle.heads.proofs.Lines.{span_before}

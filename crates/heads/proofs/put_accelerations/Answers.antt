@@ -1,11 +1,10 @@
 use mathlib.Core.Path.{refl}
-use Prim.Native.Nat.{◌+◌, ◌-◌}
 use borrow.Author.Rules.{rules}
 use Rattle.law.specs.Lawful.{no_acceleration}
 use Rattle.law.specs.Writing.{acceleration_line}
 use Rattle.puts.specs.Ends.{end_wide, ended_by}
 use Rattle.puts.proofs.Puts.{puts_then, room-left}
-use Rattle.puts.proofs.Lined.{Lined, lined_none, lined_room, lined_front, lined_next, lined_map, turn_less}
+use Rattle.puts.proofs.Lined.{lined_none, lined_room, lined_front, lined_next, lined_map, turn_less}
 use Rattle.heads.specs.Lines.{acceleration_wide}
 use Rattle.heads.proofs.put_accelerations.Goals as goal
 

@@ -1,5 +1,4 @@
 -- `heads::put_scoring` meets its contract. Assumes nothing.
-use borrow.Author.Rules.{rules}
 use Rattle.puts.proofs.Puts.{puts_then, room-left, room_next}
 use Rattle.heads.proofs.put_scoring.Goals as goal
 

@@ -1,5 +1,4 @@
 -- `heads::put_span` meets its contract. Assumes nothing.
-use borrow.Author.Rules.{rules}
 use Rattle.puts.proofs.Puts.{puts_then}
 use Rattle.heads.proofs.put_span.Goals as goal
 

@@ -1,11 +1,4 @@
-use mathlib.Core.Path.{◌≡◌}
-use mathlib.Core.Bool.{true}
-use Prim.Native.Nat.{◌-◌}
-use lib.ListN.{get_or}
-use borrow.Author.Rules.{rules}
-use Rattle.law.specs.Accelerations.{is_acceleration}
-use Rattle.law.specs.Lawful.{no_acceleration}
-use Rattle.held.proofs.Passed.{told_is, Passed, passed_none, passed-next, passed-all, from_zero}
+use Rattle.held.proofs.Passed.{told_is, passed_none, passed-next, passed-all, from_zero}
 use Rattle.held.proofs.accelerations_are.Goals as goal
 
 pub loop-j-init : goal.loop-j-init

@@ -1,8 +1,4 @@
-use mathlib.Core.Path.{◌≡◌}
-use Prim.Native.Nat.{◌-◌}
-use lib.ListN.{get_or}
-use borrow.Author.Rules.{rules}
-use Rattle.held.proofs.Passed.{told_eq, Passed, passed_none, passed-next, passed-all}
+use Rattle.held.proofs.Passed.{told_eq, passed_none, passed-next, passed-all}
 use Rattle.held.proofs.bytes_unused.Goals as goal
 
 pub loop-i-init : goal.loop-i-init

@@ -2,8 +2,7 @@
 use mathlib.Core.Path.{◌≡◌}
 use Prim.Native.Nat.{◌-◌}
 use lib.ListN.{get_or}
-use borrow.Author.Rules.{rules}
-use Rattle.held.proofs.Passed.{told_eq, Passed, passed_none, passed-next, passed-all}
+use Rattle.held.proofs.Passed.{Passed}
 use Rattle.held.proofs.bytes_unused.Given as goal
 
 abbrev pub invariant-loop-i : goal.invariant-loop-i

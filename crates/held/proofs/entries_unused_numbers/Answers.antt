@@ -1,8 +1,5 @@
-use Prim.Native.Nat.{◌-◌}
-use borrow.Author.Rules.{rules}
-use Rattle.law.specs.Sizes.{most_players}
-use Rattle.held.proofs.Passed.{Passed, passed_none, passed-next, passed-all, from_zero}
-use Rattle.held.proofs.Entries.{Row, entries-told, row_told}
+use Rattle.held.proofs.Passed.{passed_none, passed-next, passed-all, from_zero}
+use Rattle.held.proofs.Entries.{entries-told, row_told}
 use Rattle.held.proofs.entries_unused_numbers.Goals as goal
 
 pub loop-p-init : goal.loop-p-init

@@ -1,5 +1,4 @@
 -- `held::is_clean_kept` meets its contract. Assumes nothing.
-use borrow.Author.Rules.{rules}
 use Rattle.law.proofs.RecordsRead.{kept-columns}
 use Rattle.held.proofs.Passed.{told_is, told_test, told_both}
 use Rattle.held.proofs.is_clean_kept.Goals as goal

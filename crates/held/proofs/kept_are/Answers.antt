@@ -1,14 +1,12 @@
 use mathlib.Core.Path.{◌≡◌, subst}
 use mathlib.Core.Bool.{true}
 use mathlib.Core.List.{List}
-use Prim.Native.Nat.{ℕ, ◌-◌}
-use borrow.Author.Rules.{rules}
+use Prim.Native.Nat.{ℕ}
 use Rattle.kit.specs.Lists.{all}
 use Rattle.law.specs.Lines.{allowed}
 use Rattle.law.specs.Players.{SpellsKept}
 use Rattle.texts.specs.Kept.{Told}
-use Rattle.readings.specs.Good.{kept_at}
-use Rattle.held.proofs.Passed.{Passed, passed_none, passed-next, passed-all, from_zero}
+use Rattle.held.proofs.Passed.{passed_none, passed-next, passed-all, from_zero}
 use Rattle.held.proofs.kept_are.Goals as goal
 
 pub loop-p-init : goal.loop-p-init

@@ -1,15 +1,12 @@
 -- `held::kept_are` meets its contract. The loop's invariant: the first p players have kept columns where good says so. Assumes nothing.
-use mathlib.Core.Path.{◌≡◌, subst}
+use mathlib.Core.Path.{◌≡◌}
 use mathlib.Core.Bool.{true}
-use mathlib.Core.List.{List}
-use Prim.Native.Nat.{ℕ, ◌-◌}
-use borrow.Author.Rules.{rules}
+use Prim.Native.Nat.{◌-◌}
 use Rattle.kit.specs.Lists.{all}
 use Rattle.law.specs.Lines.{allowed}
 use Rattle.law.specs.Players.{SpellsKept}
-use Rattle.texts.specs.Kept.{Told}
 use Rattle.readings.specs.Good.{kept_at}
-use Rattle.held.proofs.Passed.{Passed, passed_none, passed-next, passed-all, from_zero}
+use Rattle.held.proofs.Passed.{Passed}
 use Rattle.held.proofs.kept_are.Given as goal
 
 abbrev pub invariant-loop-p : goal.invariant-loop-p

@@ -1,5 +1,4 @@
 -- `held::numbers_unused` meets its contract. Assumes nothing.
-use borrow.Author.Rules.{rules}
 use Rattle.held.proofs.Passed.{each_as, only_zero, zero_only}
 use Rattle.held.proofs.numbers_unused.Goals as goal
 

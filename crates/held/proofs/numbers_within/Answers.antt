@@ -1,10 +1,5 @@
-use mathlib.Core.Path.{◌≡◌, refl}
-use mathlib.Core.Bool.{true}
-use Prim.Native.Nat.{◌-◌}
-use lib.ListN.{get_or}
-use borrow.Author.Rules.{rules}
-use Rattle.kit.specs.Lists.{between}
-use Rattle.held.proofs.Passed.{told_is, Passed, passed_none, passed-next, passed-all}
+use mathlib.Core.Path.{refl}
+use Rattle.held.proofs.Passed.{told_is, passed_none, passed-next, passed-all}
 use Rattle.held.proofs.numbers_within.Goals as goal
 
 pub loop-i-init : goal.loop-i-init

@@ -1,11 +1,10 @@
 -- `held::numbers_within` meets its contract. The loop's invariant: the numbers up to i lie between the two where good says so. Assumes nothing.
-use mathlib.Core.Path.{◌≡◌, refl}
+use mathlib.Core.Path.{◌≡◌}
 use mathlib.Core.Bool.{true}
 use Prim.Native.Nat.{◌-◌}
 use lib.ListN.{get_or}
-use borrow.Author.Rules.{rules}
 use Rattle.kit.specs.Lists.{between}
-use Rattle.held.proofs.Passed.{told_is, Passed, passed_none, passed-next, passed-all}
+use Rattle.held.proofs.Passed.{Passed}
 use Rattle.held.proofs.numbers_within.Given as goal
 
 abbrev pub invariant-loop-i : goal.invariant-loop-i

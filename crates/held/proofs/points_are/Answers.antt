@@ -1,6 +1,5 @@
 -- `held::points_are` meets its contract. Assumes nothing.
 use native.Mathlib.Omega.{arith}
-use borrow.Author.Rules.{rules}
 use Rattle.kit.proofs.Bools.{within, in_between}
 use Rattle.law.specs.Sizes.{most_points}
 use Rattle.held.proofs.Passed.{from_zero, each_as}

@@ -1,10 +1,4 @@
-use mathlib.Core.Path.{◌≡◌}
-use Prim.Native.Nat.{◌-◌}
-use lib.ListN.{get_or}
-use borrow.Author.Rules.{rules}
-use Rattle.law.specs.Sizes.{most_accelerations}
-use Rattle.law.specs.Lawful.{no_acceleration}
-use Rattle.held.proofs.Passed.{Passed, passed_none, passed-next, passed-all}
+use Rattle.held.proofs.Passed.{passed_none, passed-next, passed-all}
 use Rattle.held.proofs.records_unused.Goals as goal
 
 pub loop-i-init : goal.loop-i-init

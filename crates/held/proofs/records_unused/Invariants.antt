@@ -2,10 +2,9 @@
 use mathlib.Core.Path.{◌≡◌}
 use Prim.Native.Nat.{◌-◌}
 use lib.ListN.{get_or}
-use borrow.Author.Rules.{rules}
 use Rattle.law.specs.Sizes.{most_accelerations}
 use Rattle.law.specs.Lawful.{no_acceleration}
-use Rattle.held.proofs.Passed.{Passed, passed_none, passed-next, passed-all}
+use Rattle.held.proofs.Passed.{Passed}
 use Rattle.held.proofs.records_unused.Given as goal
 
 abbrev pub invariant-loop-i : goal.invariant-loop-i

@@ -2,11 +2,9 @@
 use mathlib.Core.Path.{◌≡◌}
 use Prim.Native.Nat.{◌+◌, ◌-◌}
 use lib.ListN.{get_or}
-use borrow.Author.Rules.{rules}
 use Rattle.law.specs.Sizes.{most_rounds}
 use Rattle.law.specs.Tables.{cell_of}
-use Rattle.held.proofs.Passed.{Passed, passed_none, passed-next, passed-all}
-use Rattle.held.proofs.Entries.{cell_told}
+use Rattle.held.proofs.Passed.{Passed}
 use Rattle.held.proofs.row_unused_letters.Given as goal
 
 abbrev pub invariant-loop-j : goal.invariant-loop-j

@@ -1,10 +1,5 @@
-use mathlib.Core.Path.{◌≡◌}
-use Prim.Native.Nat.{◌+◌, ◌-◌}
-use lib.ListN.{get_or}
-use borrow.Author.Rules.{rules}
-use Rattle.law.specs.Sizes.{most_rounds}
-use Rattle.law.specs.Tables.{cell_of}
-use Rattle.held.proofs.Passed.{Passed, passed_none, passed-next, passed-all}
+use Prim.Native.Nat.{◌+◌}
+use Rattle.held.proofs.Passed.{passed_none, passed-next, passed-all}
 use Rattle.held.proofs.Entries.{cell_told}
 use Rattle.held.proofs.row_unused_numbers.Goals as goal
 

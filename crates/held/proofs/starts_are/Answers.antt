@@ -1,5 +1,4 @@
 -- `held::starts_are` meets its contract. Assumes nothing.
-use borrow.Author.Rules.{rules}
 use Rattle.held.proofs.Passed.{from_zero}
 use Rattle.held.proofs.starts_are.Goals as goal
 

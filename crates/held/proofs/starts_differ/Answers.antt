@@ -1,7 +1,6 @@
-use Prim.Native.Nat.{◌-◌}
 use native.Mathlib.Omega.{arith}
 use borrow.Author.Rules.{rules}
-use Rattle.held.proofs.Differ.{Differing, low-starts, start-low, differ_next, differ_all, differ_not}
+use Rattle.held.proofs.Differ.{low-starts, start-low, differ_next, differ_all, differ_not}
 use Rattle.held.proofs.starts_differ.Goals as goal
 
 pub loop-p-init : goal.loop-p-init

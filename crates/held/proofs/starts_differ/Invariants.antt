@@ -1,8 +1,6 @@
 -- `held::starts_differ` meets its contract. The loop's invariant: the first p start numbers differ, and the index is theirs. Assumes nothing.
 use Prim.Native.Nat.{◌-◌}
-use native.Mathlib.Omega.{arith}
-use borrow.Author.Rules.{rules}
-use Rattle.held.proofs.Differ.{Differing, low-starts, start-low, differ_next, differ_all, differ_not}
+use Rattle.held.proofs.Differ.{Differing}
 use Rattle.held.proofs.starts_differ.Given as goal
 
 abbrev pub invariant-loop-p : goal.invariant-loop-p

@@ -1,5 +1,4 @@
 -- `held::unused_from` meets its contract. Assumes nothing.
-use borrow.Author.Rules.{rules}
 use Rattle.held.proofs.Entries.{used-from, unused_all}
 use Rattle.held.proofs.unused_from.Goals as goal
 

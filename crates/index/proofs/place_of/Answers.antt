@@ -1,5 +1,4 @@
 -- `index::place_of` meets its contract: what the index says at a number, and that no number is above the highest. Assumes nothing.
-use borrow.Author.Rules.{rules}
 use mathlib.Core.Path.{sym, ◌∙◌}
 use Rattle.index.proofs.Indexes.{above, cell_none, cell_some}
 use Rattle.index.proofs.place_of.Goals as goal

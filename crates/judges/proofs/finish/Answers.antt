@@ -2,7 +2,6 @@
 use mathlib.Core.Path.{sym, subst}
 use Prim.Native.Nat.{ℕ, ◌≤◌}
 use native.Mathlib.Omega.{arith}
-use borrow.Author.Rules.{rules}
 use Rattle.law.specs.Sizes.{most_rounds}
 use Rattle.steps.specs.Counts.{as_count}
 use Rattle.judges.proofs.Judging.{past_in_lem}

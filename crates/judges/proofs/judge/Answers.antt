@@ -1,7 +1,5 @@
 -- `judges::judge` meets its contract. Assumes nothing.
 use mathlib.Core.Path.{sym, ◌∙◌}
-use borrow.Author.Tests.{not-true, not-false}
-use borrow.Author.Rules.{rules}
 use Rattle.steps.specs.Counts.{as_count}
 use Rattle.judges.proofs.Judging.{judged_10, judged_11, judged_17, judged_12, judged_16}
 use Rattle.judges.proofs.judge.Goals as goal

@@ -1,5 +1,4 @@
 -- `judges::rounds_of` meets its contract. Assumes nothing.
-use borrow.Author.Rules.{rules}
 use Rattle.steps.specs.Counts.{as_count}
 use Rattle.judges.proofs.Judging.{rounds-stated, rounds-not-stated}
 use Rattle.judges.proofs.rounds_of.Goals as goal

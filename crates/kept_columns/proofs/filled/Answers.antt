@@ -1,5 +1,4 @@
-use Prim.Native.Nat.{◌≤◌, ◌-◌}
-use Rattle.kept_columns.proofs.KeptColumns.{Filled, filled_none, filled_more, filled-all}
+use Rattle.kept_columns.proofs.KeptColumns.{filled_none, filled_more, filled-all}
 use borrow.Author.Rules.{rules}
 use Rattle.kept_columns.proofs.filled.Goals as goal
 

@@ -1,7 +1,6 @@
 -- `kept_columns::filled` meets its contract. The loop's invariant: the first i kept columns are those of the line, the others are blank. Assumes nothing.
 use Prim.Native.Nat.{◌≤◌, ◌-◌}
-use Rattle.kept_columns.proofs.KeptColumns.{Filled, filled_none, filled_more, filled-all}
-use borrow.Author.Rules.{rules}
+use Rattle.kept_columns.proofs.KeptColumns.{Filled}
 use Rattle.kept_columns.proofs.filled.Given as goal
 
 abbrev pub invariant-loop-i : goal.invariant-loop-i

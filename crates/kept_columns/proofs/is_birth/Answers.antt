@@ -1,6 +1,5 @@
 -- `kept_columns::is_birth` meets its contract. Assumes nothing.
 use mathlib.Core.Path.{refl, sym, ◌∙◌}
-use borrow.Author.Rules.{rules}
 use Rattle.kept_columns.proofs.is_birth.Goals as goal
 
 pub returns-then-blank_at : goal.returns-then-blank_at

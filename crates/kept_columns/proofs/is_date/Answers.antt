@@ -1,11 +1,9 @@
 use native.Mathlib.Omega.{arith}
 use mathlib.Core.Path.{◌≡◌, sym, ap, ◌∙◌}
 use mathlib.Core.Bool.{true, false}
-use Prim.Native.Nat.{ℕ, ◌≤◌, ◌+◌, ◌-◌}
+use Prim.Native.Nat.{ℕ}
 use mathlib.Core.List.{[]}
 use lib.ListN.{drop}
-use borrow.Author.Tests.{not-true, not-false}
-use Rattle.law.specs.Columns.{cells}
 use Rattle.law.specs.Fields.{has_shape}
 use Rattle.fields.proofs.Columns.{whole, ends}
 use Rattle.kept_columns.specs.Kept.{date_shape}

@@ -3,7 +3,6 @@ use mathlib.Core.Path.{◌≡◌, refl, sym, ap, ◌∙◌}
 use mathlib.Core.Bool.{true, false}
 use mathlib.Core.Option.{none, some}
 use lib.ListN.{length}
-use borrow.Author.Tests.{not-true, not-false}
 use Rattle.kept_columns.proofs.KeptColumns.{kept_by, sex-there, title-there}
 use Rattle.fields.specs.Fields.{number_says}
 use Rattle.fields.proofs.Cases.{found, not_found}

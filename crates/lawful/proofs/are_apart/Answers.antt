@@ -1,5 +1,4 @@
 -- `lawful::are_apart` meets its contract. Assumes nothing.
-use borrow.Author.Rules.{rules}
 use Rattle.turns.proofs.Told.{told_record}
 use Rattle.lawful.proofs.Parts.{found_not, found_none}
 use Rattle.lawful.proofs.are_apart.Goals as goal

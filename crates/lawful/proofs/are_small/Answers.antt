@@ -1,8 +1,6 @@
-use Prim.Native.Nat.{◌-◌, ◌≤◌}
-use lib.ListN.{get_or}
 use borrow.Author.Rules.{rules}
 use Rattle.law.specs.Sizes.{most_points}
-use Rattle.held.proofs.Passed.{told_le, Passed, passed_none, passed-next, passed-all}
+use Rattle.held.proofs.Passed.{told_le, passed_none, passed-next, passed-all}
 use Rattle.lawful.proofs.Parts.{small-told}
 use Rattle.lawful.proofs.are_small.Goals as goal
 

@@ -1,10 +1,8 @@
 -- `lawful::are_small` meets its contract. The loop's invariant: the first i values are small where good says so. Assumes nothing.
 use Prim.Native.Nat.{◌-◌, ◌≤◌}
 use lib.ListN.{get_or}
-use borrow.Author.Rules.{rules}
 use Rattle.law.specs.Sizes.{most_points}
-use Rattle.held.proofs.Passed.{told_le, Passed, passed_none, passed-next, passed-all}
-use Rattle.lawful.proofs.Parts.{small-told}
+use Rattle.held.proofs.Passed.{Passed}
 use Rattle.lawful.proofs.are_small.Given as goal
 
 abbrev pub invariant-loop-i : goal.invariant-loop-i

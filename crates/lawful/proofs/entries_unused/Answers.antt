@@ -1,5 +1,4 @@
 -- `lawful::entries_unused` meets its contract. Assumes nothing.
-use borrow.Author.Rules.{rules}
 use Rattle.lawful.proofs.Parts.{entries-rest}
 use Rattle.lawful.proofs.entries_unused.Goals as goal
 

@@ -1,6 +1,4 @@
 -- `lawful::is_accepted` meets its contract. That there are six values is what the array's type says. Assumes nothing.
-use Prim.Native.Nat.{ℕ}
-use borrow.Author.Rules.{rules}
 use Rattle.lawful.proofs.Parts.{answer-told}
 use Rattle.lawful.proofs.is_accepted.Goals as goal
 

@@ -1,5 +1,4 @@
 -- `lawful::is_reading` meets its contract. Assumes nothing.
-use borrow.Author.Rules.{rules}
 use Rattle.law.proofs.ReadsOnce.{rooms-are}
 use Rattle.lawful.specs.Given.{tables_of}
 use Rattle.lawful.proofs.Parts.{told_yes, told-not, own_of, reading-told}

@@ -1,5 +1,4 @@
 -- `lawful::keeps` meets its contract. Assumes nothing.
-use borrow.Author.Rules.{rules}
 use Rattle.turns.proofs.Told.{told_turn}
 use Rattle.lawful.proofs.Parts.{found_not, found_none}
 use Rattle.lawful.proofs.keeps.Goals as goal

@@ -1,5 +1,4 @@
 -- `lawful::own_are` meets its contract. Assumes nothing.
-use borrow.Author.Rules.{rules}
 use Rattle.lawful.proofs.Parts.{own_told}
 use Rattle.lawful.proofs.own_are.Goals as goal
 

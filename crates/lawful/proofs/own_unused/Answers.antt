@@ -1,5 +1,4 @@
 -- `lawful::own_unused` meets its contract. Assumes nothing.
-use borrow.Author.Rules.{rules}
 use Rattle.lawful.proofs.Parts.{own_rest}
 use Rattle.lawful.proofs.own_unused.Goals as goal
 

@@ -1,5 +1,4 @@
 -- `lawful::records_are` meets its contract. Assumes nothing.
-use borrow.Author.Rules.{rules}
 use Rattle.lawful.proofs.Parts.{records-told}
 use Rattle.lawful.proofs.records_are.Goals as goal
 

@@ -1,5 +1,4 @@
 -- `lawful::sums_are` meets its contract. Assumes nothing.
-use borrow.Author.Rules.{rules}
 use Rattle.index.proofs.Told.{told-place, told_nobody}
 use Rattle.lawful.proofs.Parts.{found_not, found_none}
 use Rattle.lawful.proofs.sums_are.Goals as goal

@@ -1,5 +1,4 @@
 -- `lawful::text_is` meets its contract. Assumes nothing.
-use borrow.Author.Rules.{rules}
 use Rattle.lawful.proofs.Parts.{text-told}
 use Rattle.lawful.proofs.text_is.Goals as goal
 

@@ -1,6 +1,5 @@
 -- `lawful::together` meets its contract. Assumes nothing.
 use native.Mathlib.Omega.{arith}
-use borrow.Author.Tests.{not-false}
 use Rattle.lawful.proofs.Parts.{told_yes, told-not, index_empty, together_told}
 use Rattle.lawful.proofs.together.Goals as goal
 

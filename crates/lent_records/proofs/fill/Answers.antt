@@ -1,4 +1,4 @@
-use Rattle.std.proofs.Common.{◌≡◌, ◌<◌, length, add-one, arith}
+use Rattle.std.proofs.Common.{◌≡◌, length, add-one, arith}
 use Rattle.lent_records.proofs.Merged.{merged_next}
 use Rattle.lent_records.proofs.fill.Goals as goal
 

@@ -1,9 +1,7 @@
 use mathlib.Core.Path.{refl}
-use Prim.Native.Nat.{◌≤◌, ◌-◌}
-use lib.ListN.{length}
 use borrow.Author.Rules.{rules}
 use Rattle.law.specs.Lines.{allowed}
-use Rattle.lines.proofs.Scanned.{Scanned, scanned_next, scanned_all}
+use Rattle.lines.proofs.Scanned.{scanned_next, scanned_all}
 use Rattle.lines.proofs.all_allowed.Goals as goal
 
 pub loop-i-init : goal.loop-i-init

@@ -1,11 +1,9 @@
 -- `lines::all_allowed` meets its contract. The loop's invariant: what the first i bytes said, together with those that are left, is what all say.
 -- Assumes nothing.
-use mathlib.Core.Path.{refl}
 use Prim.Native.Nat.{◌≤◌, ◌-◌}
 use lib.ListN.{length}
-use borrow.Author.Rules.{rules}
 use Rattle.law.specs.Lines.{allowed}
-use Rattle.lines.proofs.Scanned.{Scanned, scanned_next, scanned_all}
+use Rattle.lines.proofs.Scanned.{Scanned}
 use Rattle.lines.proofs.all_allowed.Given as goal
 
 abbrev pub invariant-loop-i : goal.invariant-loop-i

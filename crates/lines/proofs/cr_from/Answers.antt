@@ -1,9 +1,6 @@
-use Prim.Native.Nat.{◌≤◌, ◌-◌}
 use native.Mathlib.Omega.{arith}
-use lib.ListN.{length}
 use borrow.Author.Rules.{rules}
 use borrow.Author.Count.{below_more}
-use Rattle.lines.specs.Step.{NoCR}
 use Rattle.lines.proofs.cr_from.Goals as goal
 
 pub loop-i-init : goal.loop-i-init

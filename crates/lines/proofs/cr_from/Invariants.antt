@@ -1,9 +1,6 @@
 -- `lines::cr_from` meets its contract. The loop's invariant: from `at` up to i there is no CR. Assumes nothing.
 use Prim.Native.Nat.{◌≤◌, ◌-◌}
-use native.Mathlib.Omega.{arith}
 use lib.ListN.{length}
-use borrow.Author.Rules.{rules}
-use borrow.Author.Count.{below_more}
 use Rattle.lines.specs.Step.{NoCR}
 use Rattle.lines.proofs.cr_from.Given as goal
 

@@ -1,12 +1,7 @@
 -- `lines::past_blocks` meets its contract. The loop's invariant: every byte up to i is allowed. Assumes nothing.
-use mathlib.Core.Path.{sym, ◌∙◌}
-use Prim.Native.Nat.{◌+◌, ◌-◌, ◌≤◌}
-use native.Mathlib.Omega.{arith}
+use Prim.Native.Nat.{◌-◌, ◌≤◌}
 use lib.ListN.{length}
-use borrow.Author.Rules.{rules}
-use borrow.Author.Tests.{not-false}
 use Rattle.lines.specs.Step.{Clean}
-use Rattle.lines.proofs.Found.{clean_join, clean_slice}
 use Rattle.lines.proofs.past_blocks.Given as goal
 
 abbrev pub invariant-loop-i : goal.invariant-loop-i

@@ -1,6 +1,5 @@
 -- `lines::past_mark` meets its contract. Assumes nothing.
 use native.Mathlib.Omega.{arith}
-use borrow.Author.Rules.{rules}
 use Rattle.lines.proofs.Found.{clean-none, clean_mark}
 use Rattle.lines.proofs.past_mark.Goals as goal
 

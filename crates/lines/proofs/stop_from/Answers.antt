@@ -1,6 +1,5 @@
 -- `lines::stop_from` meets its contract. Assumes nothing.
 use native.Mathlib.Omega.{arith}
-use borrow.Author.Rules.{rules}
 use Rattle.lines.proofs.Found.{clean_join, stop_near, stop-past}
 use Rattle.lines.proofs.stop_from.Goals as goal
 

@@ -1,11 +1,6 @@
 -- `lines::stop_within` meets its contract. The loop's invariant: every byte up to i is allowed. Assumes nothing.
-use mathlib.Core.Path.{sym, ap, ◌∙◌}
-use mathlib.Core.Bool.{not}
 use Prim.Native.Nat.{◌-◌, ◌≤◌}
-use native.Mathlib.Omega.{arith}
-use borrow.Author.Rules.{rules}
 use Rattle.lines.specs.Step.{Clean}
-use Rattle.lines.proofs.Found.{clean_more}
 use Rattle.lines.proofs.stop_within.Given as goal
 
 abbrev pub invariant-loop-i : goal.invariant-loop-i

@@ -1,5 +1,4 @@
 -- `lines::whole` meets its contract. Assumes nothing.
-use borrow.Author.Rules.{rules}
 use Rattle.lines.specs.Step.{StepMeans}
 use Rattle.lines.proofs.Found.{whole-end, whole-lf, whole_other}
 use Rattle.lines.proofs.whole.Goals as goal

@@ -7,7 +7,6 @@ use Rattle.tables.specs.Lent.{nine}
 use Rattle.record_cells.specs.Cells.{records_of}
 use Rattle.runs.specs.Lined.{ran}
 use Rattle.lines_read.proofs.Leaves.{read_as, begun, none-indexed, none-small, line_refused, rounds_fit, values_fit, file-refused, file-accepted}
-use borrow.Author.Rules.{rules}
 use Rattle.lines_read.proofs.read_lines.Goals as goal
 
 pub run-ran-requires : goal.run-ran-requires
@@ -66,7 +65,8 @@ finish-done-requires c =
     let did = ap (λ (rs : List Acceleration). ran r.result rs x) u.ensures ∙ begun r.result (records_of r.new.cells) t x a.file.now n.result n.ensures r.ensures.0 in
     let l = c.requires.long in
     let fault = c.if-ran-ne0.false in
-    record { long = (
+    record {
+      long = (
         record {
           starts_long = let e = r.auto.starts in let h = l.starts in omega arith;
           opponents_long = let e = r.auto.opponents in let h = l.opponents in omega arith;
@@ -74,13 +74,15 @@ finish-done-requires c =
           results_long = let e = r.auto.results in let h = l.results in omega arith;
         },
         r.ensures.1,
-      ); most_players_in_bounds = (
+      );
+      most_players_in_bounds = (
         let e = r.auto.points in let h = l.points in omega arith,
         let e = r.auto.lines in let h = l.lines in omega arith,
         rounds_fit t l c.requires.zeroed a.file.now c.requires.file_len_bound r.result u.result x did fault,
         values_fit t l c.requires.zeroed a.file.now c.requires.file_len_bound r.result u.result x did fault,
         r.ensures.2,
-      ) }
+      );
+    }
 
 pub shape_of-starts-then-verdict-ne0 : goal.shape_of-starts-then-verdict-ne0
 shape_of-starts-then-verdict-ne0 c = c.run-ran.auto.starts

@@ -1,14 +1,9 @@
 -- `listing::put_entries` meets its contract. The loop's invariant: the fields of the first rounds are put. Assumes nothing.
-use borrow.Author.Rules.{rules}
-use Rattle.listing.proofs.Lines.{fields_all}
-use Rattle.listing.proofs.Lines.{fields_none, fields_next}
-use Rattle.listing.proofs.Puts.{put_long}
 use Rattle.listing.specs.Listing.{entry_fields}
 use Rattle.listing.specs.Put.{Put}
 use lib.ListN.{length}
-use native.Mathlib.Omega.{arith}
 use Prim.Native.Nat.{◌+◌, ◌*◌, ◌-◌, ◌≤◌}
-use mathlib.Core.Path.{◌≡◌, refl, ◌∙◌}
+use mathlib.Core.Path.{◌≡◌}
 use Rattle.listing.proofs.put_entries.Given as goal
 
 abbrev pub invariant-loop-round : goal.invariant-loop-round

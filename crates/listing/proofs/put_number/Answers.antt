@@ -1,5 +1,4 @@
 -- `listing::put_number` meets its contract. Assumes nothing.
-use borrow.Author.Rules.{rules}
 use Rattle.listing.specs.Listing.{decimal}
 use Rattle.listing.proofs.put_number.Goals as goal
 

@@ -1,13 +1,9 @@
 -- `listing::put_players` meets its contract. The loop's invariant: the lines of the first players are put. Assumes nothing.
-use borrow.Author.Rules.{rules}
-use Rattle.listing.proofs.Lines.{lines_none, lines_next, lines-all}
-use Rattle.listing.proofs.Puts.{put_long}
 use Rattle.listing.specs.Listing.{six, player_lines, most_player_line}
 use Rattle.listing.specs.Put.{Put}
 use lib.ListN.{length}
-use native.Mathlib.Omega.{arith}
 use Prim.Native.Nat.{◌+◌, ◌*◌, ◌-◌, ◌≤◌}
-use mathlib.Core.Path.{◌≡◌, refl, ◌∙◌}
+use mathlib.Core.Path.{◌≡◌}
 use Rattle.listing.proofs.put_players.Given as goal
 
 abbrev pub invariant-loop-place : goal.invariant-loop-place

@@ -1,7 +1,5 @@
-use Prim.Native.Nat.{◌-◌}
-use borrow.Author.Rules.{rules}
 use Rattle.puts.proofs.Lined.{lined_none, lined_room, turn_less}
-use Rattle.player_lines.proofs.Rows.{Rounds, round-next, rounds_put}
+use Rattle.player_lines.proofs.Rows.{round-next, rounds_put}
 use Rattle.player_lines.proofs.put_entries.Goals as goal
 
 pub loop-done-init : goal.loop-done-init

@@ -1,8 +1,6 @@
 -- `player_lines::put_entries` meets its contract. The loop's invariant: the first rounds are put. Assumes nothing.
 use Prim.Native.Nat.{◌-◌}
-use borrow.Author.Rules.{rules}
-use Rattle.puts.proofs.Lined.{lined_none, lined_room, turn_less}
-use Rattle.player_lines.proofs.Rows.{Rounds, round-next, rounds_put}
+use Rattle.player_lines.proofs.Rows.{Rounds}
 use Rattle.player_lines.proofs.put_entries.Given as goal
 
 abbrev pub invariant-loop-done : goal.invariant-loop-done

@@ -1,6 +1,5 @@
 -- `player_lines::put_entry` meets its contract. Assumes nothing.
 use mathlib.Core.Path.{◌∙◌}
-use borrow.Author.Rules.{rules}
 use Rattle.puts.proofs.Puts.{puts_then, room-left, room_next}
 use Rattle.player_lines.proofs.put_entry.Goals as goal
 

@@ -1,5 +1,4 @@
 -- `player_lines::put_head` meets its contract. Assumes nothing.
-use borrow.Author.Rules.{rules}
 use Rattle.puts.proofs.Puts.{puts_then, puts_last, room-left, room_next, a_column}
 use Rattle.player_lines.proofs.put_head.Goals as goal
 

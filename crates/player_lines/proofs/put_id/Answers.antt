@@ -1,6 +1,5 @@
 -- `player_lines::put_id` meets its contract. Assumes nothing.
 use mathlib.Core.Path.{refl}
-use borrow.Author.Rules.{rules}
 use Rattle.puts.proofs.Puts.{puts_as}
 use Rattle.player_lines.proofs.Ids.{id-none, id-some}
 use Rattle.player_lines.proofs.put_id.Goals as goal

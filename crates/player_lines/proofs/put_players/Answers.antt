@@ -1,13 +1,11 @@
 use mathlib.Core.Path.{refl}
-use Prim.Native.Nat.{◌-◌}
 use native.Mathlib.Nat.{lt_of_lt_of_le}
-use borrow.Author.Rules.{rules}
 use Rattle.puts.specs.Ends.{end_wide}
 use Rattle.puts.proofs.Puts.{room-left}
 use Rattle.puts.proofs.Lined.{lined_none, lined_room, lined_front, turn_less}
 use Rattle.player_lines.specs.Lines.{player_wide}
 use Rattle.player_lines.specs.Rows.{seven}
-use Rattle.player_lines.proofs.Rows.{Players, player-next, players_put}
+use Rattle.player_lines.proofs.Rows.{player-next, players_put}
 use Rattle.player_lines.proofs.put_players.Goals as goal
 
 pub loop-i-init : goal.loop-i-init

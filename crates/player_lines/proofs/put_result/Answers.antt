@@ -2,7 +2,6 @@
 use mathlib.Core.Path.{refl, sym, ap, ◌∙◌}
 use mathlib.Core.Bool.{Bool, cond}
 use mathlib.Core.List.{[], ◌∷◌}
-use borrow.Author.Rules.{rules}
 use Rattle.law.specs.Columns.{blank}
 use Rattle.puts.proofs.Puts.{puts_as}
 use Rattle.player_lines.proofs.put_result.Goals as goal

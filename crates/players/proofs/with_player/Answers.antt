@@ -1,6 +1,5 @@
 -- `players::with_player` meets its contract. Assumes nothing.
 use mathlib.Core.Path.{refl}
-use borrow.Author.Rules.{rules}
 use Rattle.join.specs.Store.{count_player}
 use Rattle.players.proofs.with_player.Goals as goal
 

@@ -1,8 +1,6 @@
-use Prim.Native.Nat.{◌-◌}
 use native.Mathlib.Omega.{arith}
 use borrow.Author.Rules.{rules}
-use Rattle.law.specs.Columns.{blank}
-use Rattle.puts.proofs.Turns.{Run, run_none, run-next, run-all}
+use Rattle.puts.proofs.Turns.{run_none, run-next, run-all}
 use Rattle.puts.proofs.put_blanks.Goals as goal
 
 pub loop-i-init : goal.loop-i-init

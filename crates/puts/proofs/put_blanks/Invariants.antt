@@ -1,9 +1,7 @@
 -- `puts::put_blanks` meets its contract. Assumes nothing.
 use Prim.Native.Nat.{◌-◌}
-use native.Mathlib.Omega.{arith}
-use borrow.Author.Rules.{rules}
 use Rattle.law.specs.Columns.{blank}
-use Rattle.puts.proofs.Turns.{Run, run_none, run-next, run-all}
+use Rattle.puts.proofs.Turns.{Run}
 use Rattle.puts.proofs.put_blanks.Given as goal
 
 abbrev pub invariant-loop-i : goal.invariant-loop-i

@@ -1,6 +1,5 @@
 -- `puts::put_end` meets its contract. Assumes nothing.
 use native.Mathlib.Omega.{arith}
-use borrow.Author.Rules.{rules}
 use Rattle.puts.proofs.Puts.{puts_byte}
 use Rattle.puts.proofs.Ends.{crlf-wide, cr-wide, put_crlf, put_cr}
 use Rattle.puts.proofs.put_end.Goals as goal

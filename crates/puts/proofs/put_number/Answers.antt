@@ -1,7 +1,6 @@
 -- `puts::put_number` meets its contract. Assumes nothing.
 use mathlib.Core.Path.{refl}
 use native.Mathlib.Omega.{arith}
-use borrow.Author.Rules.{rules}
 use Rattle.puts.proofs.Puts.{puts_as, puts_store}
 use Rattle.puts.proofs.Numbers.{filled_last}
 use Rattle.puts.proofs.put_number.Goals as goal

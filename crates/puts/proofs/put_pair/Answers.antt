@@ -3,7 +3,6 @@ use mathlib.Core.Path.{refl}
 use Prim.Native.Nat.{◌+◌}
 use native.Mathlib.Omega.{arith}
 use lib.ListN.{length-set}
-use borrow.Author.Rules.{rules}
 use Rattle.puts.proofs.Puts.{puts_as, puts_byte, puts_store}
 use Rattle.puts.proofs.put_pair.Goals as goal
 

@@ -4,7 +4,6 @@ use Prim.Native.Nat.{◌-◌}
 use native.Mathlib.Omega.{arith}
 use lib.ListN.{take, drop, length, length-drop}
 use lib.Seq.{take-take, length-take-le}
-use borrow.Author.Rules.{rules}
 use Rattle.puts.proofs.Puts.{puts_as, puts_copy}
 use Rattle.puts.proofs.put_part.Goals as goal
 

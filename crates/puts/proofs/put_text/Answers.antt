@@ -1,7 +1,5 @@
-use Prim.Native.Nat.{◌-◌}
 use native.Mathlib.Omega.{arith}
-use borrow.Author.Rules.{rules}
-use Rattle.puts.proofs.Ends.{Relined, relined-start, relined-next, relined-all, relined-room}
+use Rattle.puts.proofs.Ends.{relined-start, relined-next, relined-all, relined-room}
 use Rattle.puts.proofs.put_text.Goals as goal
 
 pub loop-i-init : goal.loop-i-init

@@ -1,8 +1,6 @@
 -- `puts::put_text` meets its contract. The loop's invariant: the first i bytes are put, with their terminators. Assumes nothing.
 use Prim.Native.Nat.{◌-◌}
-use native.Mathlib.Omega.{arith}
-use borrow.Author.Rules.{rules}
-use Rattle.puts.proofs.Ends.{Relined, relined-start, relined-next, relined-all, relined-room}
+use Rattle.puts.proofs.Ends.{Relined}
 use Rattle.puts.proofs.put_text.Given as goal
 
 abbrev pub invariant-loop-i : goal.invariant-loop-i

@@ -1,5 +1,5 @@
 use borrow.Author.Rules.{rules}
-use Rattle.puts.proofs.Turns.{Showing, showing_none, showing_next, showing_all}
+use Rattle.puts.proofs.Turns.{showing_none, showing_next, showing_all}
 use Rattle.puts.proofs.put_upper.Goals as goal
 
 pub loop-i-init : goal.loop-i-init

@@ -1,6 +1,5 @@
 -- `puts::put_upper` meets its contract. The loop's invariant: the last columns are put. Assumes nothing.
-use borrow.Author.Rules.{rules}
-use Rattle.puts.proofs.Turns.{Showing, showing_none, showing_next, showing_all}
+use Rattle.puts.proofs.Turns.{Showing}
 use Rattle.puts.proofs.put_upper.Given as goal
 
 abbrev pub invariant-loop-i : goal.invariant-loop-i

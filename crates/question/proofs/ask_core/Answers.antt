@@ -2,9 +2,7 @@
 use mathlib.Core.Path.{◌≡◌, sym, ap, ◌∙◌}
 use Prim.Native.Nat.{ℕ}
 use native.Mathlib.Omega.{arith}
-use borrow.Author.Tests.{not-true, not-false}
 use lib.ListN.{length, take}
-use borrow.Author.Rules.{rules}
 use Rattle.kit.specs.Lists.{first}
 use Rattle.law.specs.Sizes.{most_accelerations}
 use Rattle.law.specs.Accelerations.{covers}

@@ -1,9 +1,6 @@
 use mathlib.Core.Path.{sym, ◌∙◌}
-use Prim.Native.Nat.{◌-◌}
-use borrow.Author.Rules.{rules}
 use Rattle.turns.specs.Found.{as_found_record}
-use Rattle.turns.proofs.Seeks.{Seeking, seek_none, seek_hit, seek_more, seek_end}
-use Rattle.question.specs.Covering.{covers_at}
+use Rattle.turns.proofs.Seeks.{seek_none, seek_hit, seek_more, seek_end}
 use Rattle.question.proofs.first_covering.Goals as goal
 
 pub loop-j-init : goal.loop-j-init

@@ -2,10 +2,8 @@
 use mathlib.Core.Path.{ap₂, ◌∙◌}
 use mathlib.Core.Bool.{◌&&◌}
 use native.Mathlib.Omega.{arith}
-use borrow.Author.Tests.{not-true, not-false}
 use Rattle.tables.specs.Lent.{nine}
 use Rattle.reader.proofs.Core.{core_as, zeroed_self, long_as, short_core, lent-long, big_core, refused_core_lem, accepted_core_lem}
-use borrow.Author.Rules.{rules}
 use Rattle.reader.proofs.read_core.Goals as goal
 
 pub returns-then-not-numbered-long : goal.returns-then-not-numbered-long

@@ -1,8 +1,5 @@
 use mathlib.Core.Path.{refl}
-use Prim.Native.Nat.{◌-◌}
-use borrow.Author.Rules.{rules}
-use Rattle.law.specs.Sizes.{most_accelerations}
-use Rattle.record_cells.proofs.Five.{Taken, taken_none, taken_more, taken_all}
+use Rattle.record_cells.proofs.Five.{taken_none, taken_more, taken_all}
 use Rattle.record_cells.proofs.all.Goals as goal
 
 pub loop-j-init : goal.loop-j-init

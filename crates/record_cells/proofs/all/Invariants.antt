@@ -1,9 +1,7 @@
 -- `record_cells::all` meets its contract. The loop's invariant: the first j records are taken. Assumes nothing.
-use mathlib.Core.Path.{refl}
 use Prim.Native.Nat.{◌-◌}
-use borrow.Author.Rules.{rules}
 use Rattle.law.specs.Sizes.{most_accelerations}
-use Rattle.record_cells.proofs.Five.{Taken, taken_none, taken_more, taken_all}
+use Rattle.record_cells.proofs.Five.{Taken}
 use Rattle.record_cells.proofs.all.Given as goal
 
 abbrev pub invariant-loop-j : goal.invariant-loop-j

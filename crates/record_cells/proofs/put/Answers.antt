@@ -1,5 +1,4 @@
 -- `record_cells::put` meets its contract. Assumes nothing.
-use borrow.Author.Rules.{rules}
 use Rattle.record_cells.proofs.Five.{stored_is, stored_long}
 use Rattle.record_cells.proofs.put.Goals as goal
 

@@ -1,7 +1,5 @@
 -- `records::acceleration_else_blank` meets its contract: the columns between the fields, one gap after the other. Assumes nothing.
 use mathlib.Core.Path.{refl, sym, ◌∙◌}
-use borrow.Author.Tests.{not-true, not-false}
-use borrow.Author.Rules.{rules}
 use Rattle.records.proofs.acceleration_else_blank.Goals as goal
 
 pub returns-then-not-blank_at : goal.returns-then-not-blank_at

@@ -2,13 +2,11 @@
 use mathlib.Core.Path.{refl, sym, ap, ◌∙◌}
 use mathlib.Core.Bool.{true, false}
 use mathlib.Core.Option.{none, some}
-use borrow.Author.Tests.{not-true, not-false}
 use Rattle.fields.proofs.Cases.{value-said, none_said}
 use Rattle.fields.specs.Said.{or_bad_field}
 use Rattle.fields.specs.Fields.{points_says}
 use Rattle.records.specs.Records.{span_says, start_span_says}
 use Rattle.records.proofs.Accelerations.{acceleration_by, acceleration_in_lem}
-use borrow.Author.Rules.{rules}
 use Rattle.records.proofs.acceleration_of.Goals as goal
 
 pub returns-then-not-acceleration_else_blank : goal.returns-then-not-acceleration_else_blank

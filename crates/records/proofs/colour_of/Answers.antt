@@ -1,10 +1,8 @@
 -- `records::colour_of` meets its contract. Assumes nothing.
 use mathlib.Core.Path.{refl, sym, ap, ◌∙◌}
 use mathlib.Core.Bool.{true, false}
-use borrow.Author.Tests.{not-true, not-false}
 use Rattle.fields.specs.Said.{or_bad_field}
 use Rattle.records.proofs.Heads.{colour_by}
-use borrow.Author.Rules.{rules}
 use Rattle.records.proofs.colour_of.Goals as goal
 
 pub returns-then-not-is_initial : goal.returns-then-not-is_initial

@@ -1,6 +1,6 @@
 -- `records::is_acceleration` meets its contract: the rules one by one, in the order of the statement. Assumes nothing.
 use mathlib.Core.Path.{refl, sym, ◌∙◌}
-use borrow.Author.Tests.{not-true, not-false, le-leb, lt-leb}
+use borrow.Author.Tests.{le-leb, lt-leb}
 use Rattle.fields.proofs.Turns.{and-true}
 use Rattle.records.proofs.is_acceleration.Goals as goal
 

@@ -2,12 +2,11 @@
 use mathlib.Core.Path.{refl, sym, ap, ◌∙◌}
 use mathlib.Core.Bool.{true, false}
 use mathlib.Core.Option.{none}
-use borrow.Author.Tests.{not-true, not-false, le-leb, lt-leb}
+use borrow.Author.Tests.{le-leb, lt-leb}
 use Rattle.fields.specs.Said.{or_bad_field}
 use Rattle.fields.specs.Fields.{leading_says}
 use Rattle.fields.proofs.Cases.{value-said, none_said}
 use Rattle.records.proofs.Heads.{rounds_by, rounds_in_lem}
-use borrow.Author.Rules.{rules}
 use Rattle.records.proofs.rounds_of.Goals as goal
 
 pub returns-then-not-blank_but : goal.returns-then-not-blank_but

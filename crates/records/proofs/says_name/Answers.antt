@@ -1,7 +1,6 @@
 -- `records::says_name` meets its contract. Assumes nothing.
 use mathlib.Core.Path.{refl, sym, ap, ◌∙◌}
 use mathlib.Core.Bool.{not}
-use borrow.Author.Tests.{not-true, not-false}
 use Rattle.records.proofs.says_name.Goals as goal
 
 pub returns-then-not-has_code : goal.returns-then-not-has_code

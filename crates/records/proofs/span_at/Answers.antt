@@ -8,7 +8,6 @@ use Prim.Native.Nat.{◌+◌}
 use Rattle.law.specs.Columns.{cells}
 use Rattle.law.proofs.FieldsRead.{number_of}
 use Rattle.fields.proofs.Cases.{number-said, no_number}
-use borrow.Author.Rules.{rules}
 use Rattle.records.proofs.span_at.Goals as goal
 
 pub returns-in_default : goal.returns-in_default

@@ -1,7 +1,6 @@
 -- `records::start_span_at` meets its contract. Assumes nothing.
 use mathlib.Core.Path.{sym, ap, ◌∙◌}
 use Rattle.records.specs.Records.{span_says}
-use borrow.Author.Rules.{rules}
 use Rattle.records.proofs.start_span_at.Goals as goal
 
 pub returns-in_default : goal.returns-in_default

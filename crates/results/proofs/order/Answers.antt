@@ -1,7 +1,6 @@
 -- `results::order` meets its contract: the table is the one that the rule gives. Assumes nothing.
 use Rattle.results.specs.Order.{result_place}
 use Rattle.results.proofs.Ordered.{is_order}
-use borrow.Author.Rules.{rules}
 use Rattle.results.proofs.order.Goals as goal
 
 pub returns : goal.returns

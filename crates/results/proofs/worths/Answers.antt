@@ -3,7 +3,6 @@ use mathlib.Core.Path.{refl}
 use Rattle.join.specs.Check.{worth_by}
 use Rattle.results.specs.Order.{result_place}
 use Rattle.results.proofs.Ordered.{are-worths}
-use borrow.Author.Rules.{rules}
 use Rattle.results.proofs.worths.Goals as goal
 
 pub returns : goal.returns

@@ -1,7 +1,6 @@
 -- `rows::blank_column` meets its contract. Assumes nothing.
 use mathlib.Core.Path.{sym}
 use Rattle.kept_columns.proofs.KeptColumns.{gap}
-use borrow.Author.Rules.{rules}
 use Rattle.rows.proofs.blank_column.Goals as goal
 
 pub returns : goal.returns

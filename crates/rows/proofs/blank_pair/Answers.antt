@@ -1,6 +1,5 @@
 -- `rows::blank_pair` meets its contract. Assumes nothing.
 use mathlib.Core.Path.{◌∙◌}
-use borrow.Author.Rules.{rules}
 use Rattle.rows.proofs.Letters.{pair_is}
 use Rattle.rows.proofs.blank_pair.Goals as goal
 

@@ -2,7 +2,6 @@
 use mathlib.Core.Path.{refl}
 use Rattle.fields.proofs.Keys.{run_below, run_above}
 use Rattle.kit.proofs.Bools.{in_between}
-use borrow.Author.Rules.{rules}
 use Rattle.rows.proofs.capital.Goals as goal
 
 pub returns-then-c-lt97 : goal.returns-then-c-lt97

@@ -1,8 +1,6 @@
 -- `rows::player_else_blank` meets its contract: the columns between the fields, one gap after the other. Assumes nothing.
 use mathlib.Core.Path.{refl, sym, ◌∙◌}
-use borrow.Author.Tests.{not-true, not-false}
 use Rattle.fields.proofs.Turns.{and-true}
-use borrow.Author.Rules.{rules}
 use Rattle.rows.proofs.player_else_blank.Goals as goal
 
 pub returns-then-not-blank_column : goal.returns-then-not-blank_column

@@ -1,6 +1,5 @@
 -- `rows::result_of` meets its contract. Assumes nothing.
 use mathlib.Core.Path.{sym, ◌∙◌}
-use borrow.Author.Tests.{not-true, not-false}
 use Rattle.rows.proofs.Letters.{letter_plain, letter-blank, letter-capital, letter_bad}
 use Rattle.rows.proofs.result_of.Goals as goal
 

@@ -1,8 +1,6 @@
 -- `rows::round_else_blank` meets its contract. Assumes nothing.
 use mathlib.Core.Path.{refl, sym, ◌∙◌}
-use borrow.Author.Tests.{not-true, not-false}
 use Rattle.fields.proofs.Turns.{and-true}
-use borrow.Author.Rules.{rules}
 use Rattle.rows.proofs.round_else_blank.Goals as goal
 
 pub returns-then-not-blank_pair : goal.returns-then-not-blank_pair

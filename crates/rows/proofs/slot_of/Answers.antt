@@ -1,6 +1,5 @@
 -- `rows::slot_of` meets its contract: at each answer the columns read so far say what the round is. Assumes nothing.
 use mathlib.Core.Path.{refl, sym, ap, ◌∙◌}
-use borrow.Author.Tests.{not-true, not-false}
 use Rattle.law.specs.Players.{capital}
 use Rattle.law.proofs.FieldsRead.{number_of}
 use Rattle.fields.specs.Fields.{number_says}
@@ -8,7 +7,6 @@ use Rattle.fields.proofs.Cases.{is_value, is_blank_lem, is_bad}
 use Rattle.rows.specs.Rows.{letter_says}
 use Rattle.rows.proofs.Letters.{code_at, letter-said, letter-not}
 use Rattle.rows.proofs.PlayerRounds.{id_bytes, colour_bad, result_bad, id_bad, wholly_blank, id-blank, id-zero, id_other}
-use borrow.Author.Rules.{rules}
 use Rattle.rows.proofs.slot_of.Goals as goal
 
 pub returns-then-not-is_slot_colour : goal.returns-then-not-is_slot_colour

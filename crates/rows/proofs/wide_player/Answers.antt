@@ -5,7 +5,6 @@ use Rattle.law.specs.Columns.{cells}
 use Rattle.fields.specs.Fields.{number_says, points_says}
 use Rattle.fields.proofs.Cases.{found, not_found, value-said, none_said}
 use Rattle.rows.proofs.PlayerLines.{else_bad, kept_bad, start_bad, points_bad, rank_bad, slots_bad, row_good}
-use borrow.Author.Rules.{rules}
 use Rattle.rows.proofs.wide_player.Goals as goal
 
 pub returns-then-not-player_else_blank : goal.returns-then-not-player_else_blank

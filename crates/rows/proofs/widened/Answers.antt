@@ -1,8 +1,7 @@
-use mathlib.Core.Path.{◌≡◌, refl, ap, ◌∙◌}
-use mathlib.Core.List.{List, ◌++◌}
-use Prim.Native.Nat.{ℕ, ◌≤◌, ◌-◌}
-use lib.ListN.{length, get_or, take, set, replicate}
-use Rattle.law.specs.Columns.{blank}
+use mathlib.Core.Path.{refl, ap, ◌∙◌}
+use mathlib.Core.List.{List}
+use Prim.Native.Nat.{ℕ}
+use lib.ListN.{get_or, set}
 use Rattle.rows.proofs.ShortLines.{widen_next, widen_end}
 use borrow.Author.Rules.{rules}
 use Rattle.rows.proofs.widened.Goals as goal

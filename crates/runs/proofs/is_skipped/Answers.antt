@@ -1,7 +1,6 @@
 -- `runs::is_skipped` meets its contract. Assumes nothing.
 use mathlib.Core.Path.{sym, ◌∙◌}
-use borrow.Author.Rules.{rules}
-use borrow.Author.Tests.{leb-true, not-false}
+use borrow.Author.Tests.{leb-true}
 use Rattle.kit.proofs.Bools.{clash}
 use Rattle.runs.proofs.Sound.{passed_kind, empty_skipped}
 use Rattle.runs.proofs.is_skipped.Goals as goal

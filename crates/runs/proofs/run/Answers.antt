@@ -1,10 +1,8 @@
 use mathlib.Core.Path.{◌∙◌}
-use Prim.Native.Nat.{◌-◌}
 use native.Mathlib.Omega.{arith}
-use lib.ListN.{length}
 use Rattle.lines.proofs.Told.{told_done, told_broken, told_foul, told-whole}
 use Rattle.tables.specs.Lent.{nine}
-use Rattle.runs.proofs.Going.{Going, long_as, going_none, going_done, going_fault, going_stop, going_next, going_skip}
+use Rattle.runs.proofs.Going.{long_as, going_none, going_done, going_fault, going_stop, going_next, going_skip}
 use borrow.Author.Rules.{rules}
 use Rattle.runs.proofs.run.Goals as goal
 

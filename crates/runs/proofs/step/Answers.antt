@@ -10,7 +10,6 @@ use Rattle.record_cells.specs.Cells.{records_of}
 use Rattle.steps.specs.Counts.{as_count}
 use Rattle.runs.proofs.Sound.{too_long, by_kind}
 use Rattle.runs.proofs.Room.{stepped, still_indexed, less}
-use borrow.Author.Rules.{rules}
 use Rattle.runs.proofs.step.Goals as goal
 
 pub returns-then-line-gt-MOST_LINE : goal.returns-then-line-gt-MOST_LINE

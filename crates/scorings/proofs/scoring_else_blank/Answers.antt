@@ -1,7 +1,5 @@
 -- `scorings::scoring_else_blank` meets its contract: the columns between the slots, one gap after the other. Assumes nothing.
 use mathlib.Core.Path.{refl, sym, ◌∙◌}
-use borrow.Author.Tests.{not-true, not-false}
-use borrow.Author.Rules.{rules}
 use Rattle.scorings.proofs.scoring_else_blank.Goals as goal
 
 pub returns-then-not-blank_at : goal.returns-then-not-blank_at

@@ -1,13 +1,7 @@
 -- `scorings::slots_given` meets its contract. The loop's invariant: the slots from the i-th on are given. Assumes nothing.
-use native.Mathlib.Omega.{arith}
-use mathlib.Core.Path.{◌≡◌, sym, ap, ◌∙◌, subst}
-use Prim.Native.Nat.{ℕ, ◌≤◌, ◌+◌, ◌*◌, ◌-◌}
+use Prim.Native.Nat.{◌≤◌}
 use lib.ListN.{drop}
-use mathlib.Core.List.{List, ◌∷◌}
-use Rattle.law.specs.Columns.{cells}
 use Rattle.scorings.specs.Scoring.{differing, slots_in, GivenSays}
-use Rattle.scorings.proofs.ScoringSlots.{slots_turn}
-use borrow.Author.Rules.{rules}
 use Rattle.scorings.proofs.slots_given.Given as goal
 
 abbrev pub invariant-loop-i : goal.invariant-loop-i

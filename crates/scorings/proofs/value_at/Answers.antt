@@ -11,7 +11,6 @@ use Rattle.fields.specs.Said.{says, or_bad_field}
 use Rattle.fields.specs.Fields.{points_says}
 use Rattle.scorings.specs.Scoring.{placed}
 use Rattle.scorings.proofs.ScoringSlots.{value_by}
-use borrow.Author.Rules.{rules}
 use Rattle.scorings.proofs.value_at.Goals as goal
 
 pub returns-then-letter-ge-VALUES : goal.returns-then-letter-ge-VALUES

@@ -4,7 +4,6 @@ use borrow.Author.Tests.{not-true, not-false}
 use Rattle.law.specs.Columns.{cells}
 use Rattle.scorings.specs.Scoring.{value_says}
 use Rattle.scorings.proofs.ScoringSlots.{slot_place, after_bad, blank_late, blank_more, slot_bad, letter-again, letter-new}
-use borrow.Author.Rules.{rules}
 use Rattle.scorings.proofs.with_slot.Goals as goal
 
 pub returns-then-not-given : goal.returns-then-not-given

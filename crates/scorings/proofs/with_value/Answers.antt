@@ -1,5 +1,4 @@
 -- `scorings::with_value` meets its contract. Assumes nothing.
-use borrow.Author.Rules.{rules}
 use Rattle.scorings.proofs.ScoringSlots.{with_value-are}
 use Rattle.scorings.proofs.with_value.Goals as goal
 

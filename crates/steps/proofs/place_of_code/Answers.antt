@@ -1,7 +1,6 @@
 -- `steps::place_of_code` meets its contract. Assumes nothing.
 use mathlib.Core.Path.{sym, ap, ◌∙◌}
 use Prim.Native.Nat.{ℕ}
-use borrow.Author.Rules.{rules}
 use Rattle.steps.specs.Counts.{place_of_code}
 use Rattle.steps.proofs.Places.{other_code}
 use Rattle.steps.proofs.place_of_code.Goals as goal

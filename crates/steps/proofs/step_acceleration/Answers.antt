@@ -3,7 +3,6 @@ use mathlib.Core.Path.{sym, ap, ◌∙◌}
 use native.Mathlib.Omega.{arith}
 use lib.ListN.{set}
 use borrow.Author.Tests.{lt-ltb, le-ltb}
-use borrow.Author.Rules.{rules}
 use Rattle.law.specs.Sizes.{most_accelerations}
 use Rattle.law.proofs.RecordsRead.{acceleration_of}
 use Rattle.fields.proofs.Cases.{value-said, none_said}

@@ -1,7 +1,6 @@
 -- `steps::step_colour` meets its contract. Assumes nothing.
 use mathlib.Core.Path.{sym, ap, ◌∙◌}
 use borrow.Author.Tests.{eq-eqb, ne_eqb}
-use borrow.Author.Rules.{rules}
 use Rattle.law.proofs.RecordsRead.{colour_of}
 use Rattle.fields.proofs.Cases.{value-said, none_said}
 use Rattle.records.specs.Records.{initial_says}

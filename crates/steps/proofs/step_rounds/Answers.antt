@@ -1,6 +1,5 @@
 -- `steps::step_rounds` meets its contract. Assumes nothing.
 use mathlib.Core.Path.{sym, ap, ◌∙◌}
-use borrow.Author.Rules.{rules}
 use Rattle.law.proofs.RecordsRead.{rounds_of_row}
 use Rattle.fields.proofs.Cases.{value-said, none_said}
 use Rattle.records.specs.Records.{rounds_says}

@@ -2,7 +2,6 @@
 use mathlib.Core.Path.{ap, ◌∙◌}
 use mathlib.Core.List.{List}
 use Prim.Native.Nat.{ℕ}
-use borrow.Author.Rules.{rules}
 use Rattle.law.proofs.RecordsRead.{given_of}
 use Rattle.join.specs.Store.{count_scoring}
 use Rattle.steps.specs.Counts.{as_count}

@@ -1,7 +1,6 @@
 -- `steps::text_place` meets its contract. Assumes nothing.
 use mathlib.Core.Path.{◌∙◌, sym, subst}
 use Prim.Native.Nat.{ℕ, ◌<◌}
-use borrow.Author.Rules.{rules}
 use Rattle.steps.proofs.Places.{code_place_lem}
 use Rattle.steps.proofs.text_place.Goals as goal
 

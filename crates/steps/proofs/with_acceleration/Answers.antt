@@ -1,6 +1,5 @@
 -- `steps::with_acceleration` meets its contract. Assumes nothing.
 use mathlib.Core.Path.{refl}
-use borrow.Author.Rules.{rules}
 use Rattle.join.specs.Store.{count_acceleration}
 use Rattle.steps.proofs.with_acceleration.Goals as goal
 

@@ -1,6 +1,5 @@
 -- `steps::with_text` meets its contract. Assumes nothing.
 use mathlib.Core.Path.{refl}
-use borrow.Author.Rules.{rules}
 use Rattle.join.specs.Store.{count_text}
 use Rattle.steps.proofs.with_text.Goals as goal
 

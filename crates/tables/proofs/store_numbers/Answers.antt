@@ -1,8 +1,5 @@
-use Prim.Native.Nat.{◌-◌}
 use borrow.Author.Rules.{rules}
-use Rattle.law.specs.Sizes.{most_rounds}
-use Rattle.law.specs.Tables.{cell_of}
-use Rattle.tables.proofs.Rows.{Stored, stored_none, stored_next, stored_all}
+use Rattle.tables.proofs.Rows.{stored_none, stored_next, stored_all}
 use Rattle.tables.proofs.store_numbers.Goals as goal
 
 pub loop-j-init : goal.loop-j-init

@@ -1,9 +1,8 @@
 -- `tables::store_numbers` meets its contract. The loop's invariant: the first j values are stored. Assumes nothing.
 use Prim.Native.Nat.{◌-◌}
-use borrow.Author.Rules.{rules}
 use Rattle.law.specs.Sizes.{most_rounds}
 use Rattle.law.specs.Tables.{cell_of}
-use Rattle.tables.proofs.Rows.{Stored, stored_none, stored_next, stored_all}
+use Rattle.tables.proofs.Rows.{Stored}
 use Rattle.tables.proofs.store_numbers.Given as goal
 
 abbrev pub invariant-loop-j : goal.invariant-loop-j

@@ -1,5 +1,4 @@
 -- `tables::store_text` meets its contract. Assumes nothing.
-use borrow.Author.Rules.{rules}
 use Rattle.tables.proofs.Rows.{pasted_ended}
 use Rattle.tables.proofs.store_text.Goals as goal
 

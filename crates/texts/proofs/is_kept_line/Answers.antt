@@ -1,7 +1,5 @@
 -- `texts::is_kept_line` meets its contract. Assumes nothing.
 use mathlib.Core.Path.{sym, ap, ◌∙◌}
-use borrow.Author.Rules.{rules}
-use borrow.Author.Tests.{not-false}
 use Rattle.records.specs.Records.{text_says}
 use Rattle.texts.proofs.KeptLines.{too_long, not-clean, not_listed, listed, not-text, whole-line}
 use Rattle.texts.proofs.is_kept_line.Goals as goal

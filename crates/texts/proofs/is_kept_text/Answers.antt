@@ -1,7 +1,6 @@
 -- `texts::is_kept_text` meets its contract. Assumes nothing.
 use mathlib.Core.Path.{sym}
 use lib.Seq.{length-take-le}
-use borrow.Author.Rules.{rules}
 use Rattle.texts.proofs.is_kept_text.Goals as goal
 
 pub slice_bounds-is_whole_text-end : goal.slice_bounds-is_whole_text-end

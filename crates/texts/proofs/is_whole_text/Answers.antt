@@ -1,8 +1,5 @@
-use Prim.Native.Nat.{◌-◌}
-use lib.ListN.{length}
-use borrow.Author.Rules.{rules}
 use borrow.Author.Tests.{not-false}
-use Rattle.texts.proofs.Left.{Walked, walk_start, walk_end, walk_broken, walk_bad, walk_on}
+use Rattle.texts.proofs.Left.{walk_start, walk_end, walk_broken, walk_bad, walk_on}
 use Rattle.texts.proofs.is_whole_text.Goals as goal
 
 pub loop-at-init : goal.loop-at-init

@@ -1,6 +1,4 @@
 -- `texts::stand` meets its contract. Assumes nothing.
-use borrow.Author.Rules.{rules}
-use borrow.Author.Tests.{not-false}
 use Rattle.texts.proofs.KeptLines.{not-kept, stood_again, stands}
 use Rattle.texts.proofs.stand.Goals as goal
 

@@ -1,7 +1,6 @@
 -- `verdicts::at_turn` meets its contract. Assumes nothing.
 use mathlib.Core.Path.{◌∙◌}
 use native.Mathlib.Omega.{arith}
-use borrow.Author.Rules.{rules}
 use Rattle.join.specs.Check.{at_player}
 use Rattle.turns.proofs.Told.{told_turn}
 use Rattle.verdicts.proofs.Parts.{nothing_found, turn_found}

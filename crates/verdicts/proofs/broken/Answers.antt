@@ -2,7 +2,6 @@
 use mathlib.Core.Path.{ap, ◌∙◌}
 use Prim.Native.Nat.{ℕ, ◌*◌}
 use native.Mathlib.Omega.{arith}
-use borrow.Author.Rules.{rules}
 use Rattle.kit.specs.Decides.{to}
 use Rattle.law.specs.Sizes.{most_rounds}
 use Rattle.join.specs.Grid.{first_from}

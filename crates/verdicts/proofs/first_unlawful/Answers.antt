@@ -1,7 +1,6 @@
 -- `verdicts::first_unlawful` meets its contract. Assumes nothing.
 use Prim.Native.Nat.{◌*◌}
 use native.Mathlib.Omega.{arith}
-use borrow.Author.Rules.{rules}
 use Rattle.kit.specs.Decides.{or_else}
 use Rattle.law.specs.Sizes.{most_rounds}
 use Rattle.law.specs.Entries.{bye-or-game, mutual_pairing, fitting_results, one_U}

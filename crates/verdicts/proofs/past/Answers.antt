@@ -1,7 +1,6 @@
 -- `verdicts::past` meets its contract: by one look, or by the search. Assumes nothing.
 use Prim.Native.Nat.{◌*◌}
 use native.Mathlib.Omega.{arith}
-use borrow.Author.Rules.{rules}
 use Rattle.law.specs.Sizes.{most_rounds}
 use Rattle.law.specs.Refusals.{file_fault_number, past_142}
 use Rattle.join.specs.Grid.{first_from}

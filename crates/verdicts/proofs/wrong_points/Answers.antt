@@ -4,7 +4,6 @@ use mathlib.Core.Option.{some}
 use Prim.Native.Nat.{ℕ}
 use native.Mathlib.Omega.{arith}
 use lib.ListN.{get_or}
-use borrow.Author.Rules.{rules}
 use Rattle.law.specs.Refusals.{refusal, file_fault_number, wrong_sum_lem}
 use Rattle.join.specs.Grid.{first_from}
 use Rattle.join.specs.Check.{wrong_sum}

@@ -2,7 +2,6 @@
 use mathlib.Core.Path.{ap}
 use native.Mathlib.Omega.{arith}
 use lib.ListN.{length}
-use borrow.Author.Rules.{rules}
 use Rattle.writer.proofs.Wide.{colour-none, known_wide}
 use Rattle.writer.proofs.colour_wide.Goals as goal
 

@@ -1,6 +1,5 @@
 -- `writer::end_wide` meets its contract. Assumes nothing.
 use native.Mathlib.Omega.{arith}
-use borrow.Author.Rules.{rules}
 use Rattle.puts.proofs.Ends.{crlf-wide, cr-wide}
 use Rattle.writer.proofs.end_wide.Goals as goal
 

@@ -2,7 +2,6 @@
 use mathlib.Core.Path.{ap}
 use native.Mathlib.Omega.{arith}
 use lib.ListN.{length}
-use borrow.Author.Rules.{rules}
 use Rattle.puts.proofs.Ends.{end-wide, kept-cr, kept_byte}
 use Rattle.writer.proofs.kept_wide.Goals as goal
 

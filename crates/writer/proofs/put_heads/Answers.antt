@@ -1,5 +1,4 @@
 -- `writer::put_heads` meets its contract. Assumes nothing.
-use borrow.Author.Rules.{rules}
 use Rattle.puts.proofs.Puts.{puts_then}
 use Rattle.writer.proofs.put_heads.Goals as goal
 

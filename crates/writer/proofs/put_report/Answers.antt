@@ -1,7 +1,6 @@
 -- `writer::put_report` meets its contract. Assumes nothing.
 use Prim.Native.Nat.{◌+◌}
 use native.Mathlib.Nat.{le_trans}
-use borrow.Author.Rules.{rules}
 use Rattle.puts.proofs.Puts.{puts_then, room-left, room_next}
 use Rattle.writer.specs.Report.{heads_wide, report_text, text_wide}
 use Rattle.writer.proofs.Wide.{records_wide, players_wide, room_whole, room_front}

@@ -1,7 +1,5 @@
-use Prim.Native.Nat.{◌-◌}
 use native.Mathlib.Omega.{arith}
-use borrow.Author.Rules.{rules}
-use Rattle.writer.proofs.Wide.{Counted, counted_none, counted_next, counted_all}
+use Rattle.writer.proofs.Wide.{counted_none, counted_next, counted_all}
 use Rattle.writer.proofs.text_wide.Goals as goal
 
 pub loop-i-init : goal.loop-i-init

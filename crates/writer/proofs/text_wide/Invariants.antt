@@ -1,8 +1,6 @@
 -- `writer::text_wide` meets its contract. The loop's invariant: the first i bytes are counted. Assumes nothing.
 use Prim.Native.Nat.{◌-◌}
-use native.Mathlib.Omega.{arith}
-use borrow.Author.Rules.{rules}
-use Rattle.writer.proofs.Wide.{Counted, counted_none, counted_next, counted_all}
+use Rattle.writer.proofs.Wide.{Counted}
 use Rattle.writer.proofs.text_wide.Given as goal
 
 abbrev pub invariant-loop-i : goal.invariant-loop-i

@@ -1,9 +1,7 @@
 -- `writer::write_core` meets its contract. Assumes nothing.
 use mathlib.Core.Path.{◌≡◌, sym, ◌∙◌}
 use native.Mathlib.Omega.{arith}
-use borrow.Author.Tests.{not-true, not-false}
 use lib.ListN.{length}
-use borrow.Author.Rules.{rules}
 use Rattle.law.specs.Sizes.{most_accelerations}
 use Rattle.law.proofs.ReadsOnce.{rooms-are}
 use Rattle.law.specs.Calls.{end_of}

@@ -3,7 +3,6 @@ use mathlib.Core.Path.{ap}
 use mathlib.Core.Bool.{false}
 use native.Mathlib.Omega.{arith}
 use lib.ListN.{drop_of_length-le}
-use borrow.Author.Rules.{rules}
 use Rattle.law.proofs.Cut.{cut}
 use Rattle.lines.specs.Step.{StepMeans}
 use Rattle.lines.proofs.Found.{stop-here, stop-past, stop-cr, clean-text, broken, foul}
