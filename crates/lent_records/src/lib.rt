@@ -1,5 +1,5 @@
 // The acceleration records as they are lent: a list of structs, one a 250 record, in file order. These few functions are the only ones that touch it; all else
-// works on an array by value. Each is proved by a walk of its code by hand. Promised: which cells are written and read.
+// works on an array by value. Promised: which cells are written and read.
 #![tactic(auto)]
 
 ghost use Rattle.std.specs.Prelude.{◌≡◌, ◌≤◌, length, take, drop, ◌++◌};
