@@ -16,7 +16,7 @@
 mod prints;
 
 ghost use Rattle.std.specs.Prelude.{◌≤◌, length};
-ghost use Rattle.drafts.specs.Counts.{IsPrefixLen};
+ghost use Rattle.io.specs.Counts.{IsPrefixLen};
 
 pub use prints::{
     MARK, count_bytes, is_same, print_bytes, print_field, print_lines, print_name, print_numbers,

@@ -2,7 +2,7 @@
 #![tactic(auto)]
 
 ghost use Rattle.std.specs.Prelude.{◌≤◌, length};
-ghost use Rattle.listed.specs.Counts.{IsPrefixLen};
+ghost use Rattle.io.specs.Counts.{IsPrefixLen};
 ghost use Rattle.listing.specs.Outcomes.{Lists};
 ghost use Rattle.listed.specs.Input.{BytesIn};
 ghost use Rattle.listed.specs.Printed.{Numbered, Says};

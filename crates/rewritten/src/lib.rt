@@ -2,7 +2,7 @@
 // outputs.
 #![tactic(auto)]
 
-ghost use Rattle.listed.specs.Counts.{IsPrefixLen};
+ghost use Rattle.io.specs.Counts.{IsPrefixLen};
 ghost use Rattle.listed.specs.Printed.{Says};
 ghost use Rattle.law.specs.Calls.{end_of};
 ghost use Rattle.rewritten.specs.Rewrites.{Rewrites};
