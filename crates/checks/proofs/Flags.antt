@@ -2,7 +2,7 @@
 -- tells of the earlier players. Assumes nothing.
 use mathlib.Core.Path.{◌≡◌, refl, sym, ap, ◌∙◌}
 use mathlib.Core.Bool.{Bool, false, ◌&&◌, ◌||◌, or-false, not-not}
-use mathlib.Core.List.{List, []}
+use mathlib.Core.List.{List}
 use Prim.Native.Nat.{ℕ, ◌+◌, ◌*◌, ◌%◌, ◌<◌}
 use native.Mathlib.Decide.{ℕ_discrete}
 use native.Mathlib.Numerals.{add-one}
@@ -14,9 +14,9 @@ use lib.Seq.{get_or-set_same, get_or-set_other}
 use Rattle.kit.proofs.Bools.{and, both, both_ways}
 use Rattle.law.specs.Sizes.{most_rounds}
 use Rattle.law.specs.Entries.{one_U}
-use Rattle.join.specs.Grid.{first_from, some_below}
+use Rattle.join.specs.Grid.{some_below}
 use Rattle.join.specs.Check.{place_at, round_at, has_uat, keeps_cell, broken_cell}
-use Rattle.join.proofs.Firsts.{first_as, some_at, some_of}
+use Rattle.join.proofs.Firsts.{some_at, some_of}
 use Rattle.checks.specs.Laws.{four}
 
 -- whether one of the first k turns is of a round and has U
@@ -37,13 +37,6 @@ flag_says_lem results k =
     let p : place_at j ≡ w.0 = omega arith in
     let r : round_at j ≡ round_at k = omega arith in
     some_of (λ j. eqb (round_at j) (round_at k) && has_uat results (place_at j) (round_at k)) k j (omega (arith, w.1)) (both (eq-eqb (round_at j) (round_at k) r) (rw p w.2)))
-
--- no other table is asked of U
-pub u_alone : (n R : ℕ) (results starts opponents colours : List ℕ) (m : ℕ)
-    → first_from (broken_cell one_U n R (four [] [] [] results)) 0 m ≡ first_from (broken_cell one_U n R (four starts opponents colours results)) 0 m
-unfolding broken_cell keeps_cell
-u_alone n R results starts opponents colours m =
-    first_as (broken_cell one_U n R (four [] [] [] results)) (broken_cell one_U n R (four starts opponents colours results)) 0 m (λ k _ _. refl)
 
 -- flag r is that of round r + 1
 pub record Flags (results : List ℕ) (k : ℕ) (seen : List Bool) : Type 0 where

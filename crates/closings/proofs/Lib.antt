@@ -1,2 +1,3 @@
 pub mod Closes
 pub mod Worths
+pub mod Shared

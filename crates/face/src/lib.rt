@@ -57,8 +57,6 @@ pub fn trf_write(
 ) -> Written
     ensures { Writes (end_of cr_alone) answer (given starts points ranks kept opponents colours results text accelerations) out.old result out.new }
 {
-    let start = lent_records::starting(accelerations.len());
-    let all = lent_records::taken(accelerations, start.blank, start.n);
     writer::write_core(
         answer,
         starts,
@@ -69,8 +67,7 @@ pub fn trf_write(
         colours,
         results,
         text,
-        all,
-        accelerations.len(),
+        accelerations,
         cr_alone,
         out,
     )
@@ -93,8 +90,6 @@ pub fn trf_ask(
 ) -> Score
     ensures { Asks answer (given starts points ranks kept opponents colours results text accelerations) place round result }
 {
-    let start = lent_records::starting(accelerations.len());
-    let all = lent_records::taken(accelerations, start.blank, start.n);
     question::ask_core(
         answer,
         starts,
@@ -105,8 +100,7 @@ pub fn trf_ask(
         colours,
         results,
         text,
-        all,
-        accelerations.len(),
+        accelerations,
         place,
         round,
     )

@@ -1,7 +1,7 @@
 -- A number field of four columns by its bytes: where its digits begin, and the number that they make. Assumes nothing.
-use mathlib.Core.Path.{◌≡◌, refl, ap, ◌∙◌}
+use mathlib.Core.Path.{◌≡◌, refl, sym, ap, ◌∙◌}
 use mathlib.Core.Bool.{Bool, true, false, cond, ◌&&◌}
-use mathlib.Core.Option.{Option, none, some}
+use mathlib.Core.Option.{some}
 use mathlib.Core.List.{List, [], ◌∷◌}
 use Prim.Native.Nat.{ℕ, ◌+◌, ◌*◌}
 use Prim.Native.Char.{code}
@@ -11,8 +11,13 @@ use Rattle.kit.specs.Lists.{all}
 use Rattle.law.specs.Columns.{blank, is_blank}
 use Rattle.law.specs.Fields.{is_digit, digit_value, decimal_from}
 use Rattle.law.proofs.FieldsRead as law
-use Rattle.fields.specs.Said.{Said, says, refuses}
-use Rattle.fields.specs.Fields.{or_blank}
+use Rattle.std.specs.Prelude.{Option as Opt, Some, Result, Ok, Err}
+use Rattle.std.specs.Result.{MatchResult, IsOkAnd}
+use Rattle.types.specs.declared.Fault.{Fault}
+use Rattle.types.specs.Faults.{number_of}
+use Rattle.fields.specs.Said.{says, refuses, said, or_bad_field}
+use Rattle.fields.specs.Fields.{number_says, or_blank}
+use Rattle.fields.proofs.Cases.{never}
 
 -- all digits, or not a number
 digits-all : (n : ℕ) (ds : List ℕ) → law.digits_from n ds ≡ cond (all is_digit ds) (law.value (decimal_from n ds)) law.bad
@@ -23,13 +28,18 @@ digits-all n (d ∷ ds) = ap (λ (r : law.Number). cond (is_digit d) r law.bad) 
     go true v = refl
     go false v = refl
 
--- ---- what is said of a field whose digits are ds, perhaps after zeros in place of its blanks
-module _ (field ds : List ℕ) (start : law.number_of field ≡ law.digits_from 0 ds) where
-  pub not-digits : all is_digit ds ≡ false → ◌≡◌ {A = Said (Option ℕ)} (refuses 7) (or_blank (law.number_of field))
-  not-digits e = rw (start ∙ digits-all 0 ds, e) refl
-
-  pub their_number : (n : ℕ) → all is_digit ds ≡ true → n ≡ decimal_from 0 ds → says (some n) ≡ or_blank (law.number_of field)
-  their_number n e w = rw (start ∙ digits-all 0 ds, e) (ap (λ (k : ℕ). says (some k)) w)
+-- ---- a field whose digits are ds, perhaps after zeros in place of its blanks: their number is the field's, which is then not blank
+pub their_number : (field ds : List ℕ) (r : Result ℕ Fault) (s : Result (Opt ℕ) Fault) → law.number_of field ≡ law.digits_from 0 ds → said r ≡ or_bad_field (law.the_number (law.digits_from 0 ds))
+    → MatchResult r (λ x. IsOkAnd s (λ y. y ≡ Some x)) (λ e. s ≡ Err e) → number_says s ≡ or_blank (law.number_of field)
+their_number field ds r s start e h = rw (start ∙ digits-all 0 ds) (go (all is_digit ds) (decimal_from 0 ds) r s (e ∙ ap (λ (o : law.Number). or_bad_field (law.the_number o)) (digits-all 0 ds)) h)
+  where
+    go : (v : Bool) (w : ℕ) (r : Result ℕ Fault) (s : Result (Opt ℕ) Fault) → said r ≡ or_bad_field (law.the_number (cond v (law.value w) law.bad))
+        → MatchResult r (λ x. IsOkAnd s (λ y. y ≡ Some x)) (λ e. s ≡ Err e) → number_says s ≡ or_blank (cond v (law.value w) law.bad)
+    go true w (Ok x) (Ok y) e h = let u : x ≡ w = cc in rw h (ap (λ (k : ℕ). says (some k)) u)
+    go true w (Ok x) (Err d) e h = absurd h
+    go true w (Err d) s e h = never (sym e)
+    go false w (Ok x) s e h = never e
+    go false w (Err d) s e h = let u : number_of d ≡ 7 = cc in rw h (ap (λ (k : ℕ). refuses k) u)
 
 -- ---- where the digits begin
 module _ (a b c d : ℕ) where
@@ -39,17 +49,6 @@ module _ (a b c d : ℕ) where
   module _ (a-is : a ≡ blank) where
     pub from_second : (b ≡ blank → ⊥) → law.number_of (a ∷ b ∷ c ∷ d ∷ []) ≡ law.digits_from 0 (code "0" ∷ b ∷ c ∷ d ∷ [])
     from_second p = rw (eq-eqb a blank a-is, ne_eqb b blank p) refl
-
-    module _ (b-is : b ≡ blank) where
-      pub from_third : (c ≡ blank → ⊥) → law.number_of (a ∷ b ∷ c ∷ d ∷ []) ≡ law.digits_from 0 (code "0" ∷ code "0" ∷ c ∷ d ∷ [])
-      from_third p = rw (eq-eqb a blank a-is, eq-eqb b blank b-is, ne_eqb c blank p) refl
-
-      module _ (c-is : c ≡ blank) where
-        pub from_fourth : (d ≡ blank → ⊥) → law.number_of (a ∷ b ∷ c ∷ d ∷ []) ≡ law.digits_from 0 (code "0" ∷ code "0" ∷ code "0" ∷ d ∷ [])
-        from_fourth p = rw (eq-eqb a blank a-is, eq-eqb b blank b-is, eq-eqb c blank c-is, ne_eqb d blank p) refl
-
-        pub nowhere : d ≡ blank → says none ≡ or_blank (law.number_of (a ∷ b ∷ c ∷ d ∷ []))
-        nowhere p = rw (eq-eqb a blank a-is, eq-eqb b blank b-is, eq-eqb c blank c-is, eq-eqb d blank p) refl
 
 -- ---- a number is not blank
 pub number-not-blank : (l : List ℕ) (n : ℕ) → law.number_of l ≡ law.value n → all is_blank l ≡ false

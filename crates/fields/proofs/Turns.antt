@@ -9,7 +9,7 @@ use native.Mathlib.Nat.{pow-suc, pow-le-pow_right, lt_of_lt_of_le}
 use native.Mathlib.Numerals.{add-one}
 use native.Mathlib.Omega.{arith}
 use lib.Dec.{eqb, lit≤}
-use lib.ListN.{length, get_or, drop}
+use lib.ListN.{length, get_or}
 use borrow.Author.Tests.{eq-eqb, ne_eqb}
 use Rattle.kit.specs.Lists.{all, same}
 use Rattle.kit.specs.Decides.{when}
@@ -17,7 +17,7 @@ use Rattle.kit.proofs.Bools.{within}
 use Rattle.law.specs.Columns.{blank, is_blank, cells}
 use Rattle.law.specs.Fields.{is_digit, digit_value}
 use Rattle.law.proofs.FieldsRead.{bad, digits_from, number_of, are_points, points_of, leading_from, leading_of}
-use Rattle.fields.proofs.Columns.{cells-cons, cells_three, cells-four, turn, next}
+use Rattle.fields.proofs.Columns.{cells-cons, cells_three, cells-four, turn}
 
 -- ---- of w columns after j a loop has passed i, and c stands in the next
 module _ (row : List ℕ) (j w i c : ℕ) (h : i < w) (at : c ≡ get_or row (j + i) blank) where
@@ -54,14 +54,6 @@ module _ (row : List ℕ) (j w i c : ℕ) (h : i < w) (at : c ≡ get_or row (j 
   pub blank-stop : (c ≡ blank → ⊥) → all is_blank (cells row (j + i) (w - i)) ≡ false
   blank-stop e = turn (all is_blank) row j w i c h at ∙ rw (ne_eqb c blank e) refl
 
--- ---- a loop has come to byte k of the line
-module _ (row : List ℕ) (k : ℕ) (h : k < length row) where
-  pub rest_more : get_or row k 0 ≡ blank → all is_blank (drop k row) ≡ all is_blank (drop (k + 1) row)
-  rest_more e = next (all is_blank) row k h ∙ rw (eq-eqb (get_or row k 0) blank e) refl
-
-  pub rest-stop : (get_or row k 0 ≡ blank → ⊥) → all is_blank (drop k row) ≡ false
-  rest-stop e = next (all is_blank) row k h ∙ rw (ne_eqb (get_or row k 0) blank e) refl
-
 -- the first column decides whether there are leading digits
 pub leading-first : (row : List ℕ) (i w : ℕ) → 1 ≤ w → is_digit (get_or row i blank) ≡ true → leading_of (cells row i w) ≡ leading_from 0 (cells row i w)
 leading-first row i w h e =
@@ -83,26 +75,18 @@ worth_more n d i h g = rw (add-one, pow-suc) (omega arith)
 pub worth-fits : (i n : ℕ) → i ≤ 8 → n < 10 ^ i → n < 100000000
 worth-fits i n h g = lt_of_lt_of_le g (pow-le-pow_right {n = 10} (lit≤ tt) h)
 
--- ---- three columns, four columns
 pub and-true : (b : Bool) → b && true ≡ b
 and-true true = refl
 and-true false = refl
 
-module _ (row : List ℕ) (a b c : ℕ) where
-  three : same (cells row 0 3) (a ∷ b ∷ c ∷ []) ≡ same (get_or row 0 blank ∷ get_or row 1 blank ∷ get_or row 2 blank ∷ []) (a ∷ b ∷ c ∷ [])
-  three = ap (λ (l : List ℕ). same l (a ∷ b ∷ c ∷ [])) (cells_three row 0)
-
-  -- compared one by one: x, y, z stand in them
-  module _ (x : ℕ) (x-is : x ≡ get_or row 0 blank) where
-    pub code_one : (x ≡ a → ⊥) → same (cells row 0 3) (a ∷ b ∷ c ∷ []) ≡ false
-    code_one p = three ∙ rw (← x-is, ne_eqb x a p) refl
-
-    module _ (p : x ≡ a) (y : ℕ) (y-is : y ≡ get_or row 1 blank) where
-      pub code_two : (y ≡ b → ⊥) → same (cells row 0 3) (a ∷ b ∷ c ∷ []) ≡ false
-      code_two q = three ∙ rw (← x-is, ← y-is, eq-eqb x a p, ne_eqb y b q) refl
-
-      pub code_all : y ≡ b → (z : ℕ) → z ≡ get_or row 2 blank → same (cells row 0 3) (a ∷ b ∷ c ∷ []) ≡ eqb z c
-      code_all q z z-is = three ∙ rw (← x-is, ← y-is, ← z-is, eq-eqb x a p, eq-eqb y b q) (and-true (eqb z c))
+-- ---- three columns, four columns
+pub code_is : (row code : List ℕ) → length code ≡ 3
+    → same (cells row 0 3) code ≡ eqb (get_or row 0 blank) (get_or code 0 0) && (eqb (get_or row 1 blank) (get_or code 1 0) && eqb (get_or row 2 blank) (get_or code 2 0))
+code_is row (a ∷ b ∷ c ∷ []) h = rw (cells_three row 0, and-true (eqb (get_or row 2 blank) c)) refl
+code_is row [] h = absurd (omega arith)
+code_is row (a ∷ []) h = absurd (omega arith)
+code_is row (a ∷ b ∷ []) h = absurd (omega arith)
+code_is row (a ∷ b ∷ c ∷ d ∷ l) h = absurd (omega arith)
 
 module _ (row : List ℕ) (i a b c d : ℕ) (a-is : a ≡ get_or row i blank) (b-is : b ≡ get_or row (i + 1) blank) (c-is : c ≡ get_or row (i + 2) blank) (d-is : d ≡ get_or row (i + 3) blank) where
   four : points_of (cells row i 4) ≡ when (are_points a b c d) (some (digit_value a * 100 + digit_value b * 10 + digit_value d))

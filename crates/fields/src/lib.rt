@@ -1,5 +1,5 @@
 // The fields of a line: what stands in some of its columns, read as document 01 says. A field is given by the number of columns before it and by its
-// width; columns past the end of the line read as blank. A field reader answers an enum, whose case for a field against its rule is Bad: refusal 7.
+// width; columns past the end of the line read as blank. A field against its rule is Fault::BadField.
 #![tactic(auto)]
 
 ghost use Rattle.std.specs.Prelude.{◌≡◌, [], ◌∷◌, ◌+◌, ◌-◌, ◌≤◌, ◌<◌, length, get_or, drop};
@@ -9,30 +9,10 @@ ghost use Rattle.kit.specs.Decides.{keep, to};
 ghost use Rattle.law.specs.Columns.{blank, is_blank, cells};
 ghost use Rattle.law.specs.Fields.{is_digit, digit_value, decimal_from, is_tens};
 ghost use Rattle.law.proofs.FieldsRead.{number_of, the_number, number_or0, digits_from, are_points, points_of, leading_from, leading_of, trim};
-ghost use Rattle.fields.specs.Said.{or_bad_field};
-ghost use Rattle.fields.specs.Fields.{number_says, or_blank, points_says, leading_says};
+ghost use Rattle.fields.specs.Said.{said, or_bad_field};
+ghost use Rattle.fields.specs.Fields.{number_says, or_blank};
 
-// What a number field holds.
-#[derive(Drop)]
-pub enum Number {
-    Value(u32),
-    Blank,
-    Bad,
-}
-
-// What a points field holds, in tenths.
-#[derive(Drop)]
-pub enum Points {
-    Tenths(u32),
-    Bad,
-}
-
-// What a field of digits from its first column on holds.
-#[derive(Drop)]
-pub enum Leading {
-    Value(u32),
-    Bad,
-}
+use types::Fault;
 
 // The byte that has i columns before it.
 pub fn column(line: &[u8], i: usize) -> u8
@@ -44,81 +24,59 @@ pub fn column(line: &[u8], i: usize) -> u8
 pub fn is_digit(c: u8) -> bool
     ensures { result ≡ is_digit c }
 {
-    b'0' <= c && c <= b'9'
-}
-
-fn wide(c: u8) -> u32
-    ensures { result ≡ c }
-{
-    c as u32
+    c.is_ascii_digit()
 }
 
 // What a digit is worth; a blank is worth 0.
 fn digit_value(c: u8) -> u32
     ensures { (result ≡ digit_value c) × (result ≤ 207) }
 {
-    if c < b'0' { 0 } else { wide(c - b'0') }
+    u32::from(c.saturating_sub(b'0'))
 }
 
 // The digits in all columns of a field.
-fn digits_at(line: &[u8], from: usize, width: usize) -> Number
+fn digits_at(line: &[u8], from: usize, width: usize) -> Result<u32, Fault>
     requires { (from ≤ 65544) × (width ≤ 9) }
-    ensures { number_says result ≡ or_blank (digits_from 0 (cells line.now from width)) }
+    ensures { said result ≡ or_bad_field (the_number (digits_from 0 (cells line.now from width))) }
 {
     let mut n: u32 = 0;
-    let mut i = 0;
-    while i < width {
+    for i in 0..width {
         let c = column(line, from + i);
         if !is_digit(c) {
-            return Number::Bad;
+            return Err(Fault::BadField);
         }
         n = n * 10 + digit_value(c);
-        i += 1;
     }
-    Number::Value(n)
+    Ok(n)
 }
 
-// A number field: blanks, then digits up to its last column.
-pub fn number_at(line: &[u8], from: usize, width: usize) -> Number
+// A number field: blanks, then digits up to its last column. No number where all columns are blank.
+pub fn number_at(line: &[u8], from: usize, width: usize) -> Result<Option<u32>, Fault>
     requires { (from ≤ 65535) × (width ≤ 9) }
     ensures { number_says result ≡ or_blank (number_of (cells line.now from width)) }
 {
-    let mut i = 0;
-    while i < width {
+    for i in 0..width {
         if column(line, from + i) != b' ' {
-            return digits_at(line, from + i, width - i);
+            return digits_at(line, from + i, width - i).map(Some);
         }
-        i += 1;
     }
-    Number::Blank
+    Ok(None)
 }
 
 // A number field of four columns or blank, which is 0.
-pub fn number_or_blank(line: &[u8], from: usize) -> Number
+pub fn number_or_blank(line: &[u8], from: usize) -> Result<u32, Fault>
     requires { from ≤ 65535 }
-    ensures { number_says result ≡ or_bad_field (to some (number_or0 (number_of (cells line.now from 4)))) }
+    ensures { said result ≡ or_bad_field (number_or0 (number_of (cells line.now from 4))) }
 {
-    let n = number_at(line, from, 4);
-    match n {
-        Number::Blank => Number::Value(0),
-        _ => n,
-    }
+    let n = number_at(line, from, 4)?;
+    Ok(n.unwrap_or(0))
 }
 
 // The bytes of a field of four columns: whether all are digits, and the number that those make.
 fn are_digits(a: u8, b: u8, c: u8, d: u8) -> bool
     ensures { result ≡ all is_digit (a ∷ b ∷ c ∷ d ∷ []) }
 {
-    if !is_digit(a) {
-        return false;
-    }
-    if !is_digit(b) {
-        return false;
-    }
-    if !is_digit(c) {
-        return false;
-    }
-    is_digit(d)
+    is_digit(a) && is_digit(b) && is_digit(c) && is_digit(d)
 }
 
 fn decimal(a: u8, b: u8, c: u8, d: u8) -> u32
@@ -127,35 +85,32 @@ fn decimal(a: u8, b: u8, c: u8, d: u8) -> u32
     digit_value(a) * 1000 + digit_value(b) * 100 + digit_value(c) * 10 + digit_value(d)
 }
 
+// Four digits as a number.
+fn four_digits(a: u8, b: u8, c: u8, d: u8) -> Result<u32, Fault>
+    ensures { said result ≡ or_bad_field (the_number (digits_from 0 (a ∷ b ∷ c ∷ d ∷ []))) }
+{
+    if are_digits(a, b, c, d) {
+        Ok(decimal(a, b, c, d))
+    } else {
+        Err(Fault::BadField)
+    }
+}
+
 // A number field of four columns from its bytes, for a caller that has them at hand. A zero in place of a blank leaves the number as it is.
-pub fn number_of(a: u8, b: u8, c: u8, d: u8) -> Number
+pub fn number_of(a: u8, b: u8, c: u8, d: u8) -> Result<Option<u32>, Fault>
     ensures { number_says result ≡ or_blank (number_of (a ∷ b ∷ c ∷ d ∷ [])) }
 {
     if a != b' ' {
-        if !are_digits(a, b, c, d) {
-            return Number::Bad;
-        }
-        return Number::Value(decimal(a, b, c, d));
+        four_digits(a, b, c, d).map(Some)
+    } else if b != b' ' {
+        four_digits(b'0', b, c, d).map(Some)
+    } else if c != b' ' {
+        four_digits(b'0', b'0', c, d).map(Some)
+    } else if d != b' ' {
+        four_digits(b'0', b'0', b'0', d).map(Some)
+    } else {
+        Ok(None)
     }
-    if b != b' ' {
-        if !are_digits(b'0', b, c, d) {
-            return Number::Bad;
-        }
-        return Number::Value(decimal(b'0', b, c, d));
-    }
-    if c != b' ' {
-        if !are_digits(b'0', b'0', c, d) {
-            return Number::Bad;
-        }
-        return Number::Value(decimal(b'0', b'0', c, d));
-    }
-    if d != b' ' {
-        if !are_digits(b'0', b'0', b'0', d) {
-            return Number::Bad;
-        }
-        return Number::Value(decimal(b'0', b'0', b'0', d));
-    }
-    Number::Blank
 }
 
 // Whether a number is 1 to the most that there may be.
@@ -166,17 +121,14 @@ pub fn is_counted(n: u32, most: u32) -> bool
 }
 
 // A number field of four columns whose number is 1 to the most that there may be.
-pub fn counted_at(line: &[u8], from: usize, most: u32) -> Number
+pub fn counted_at(line: &[u8], from: usize, most: u32) -> Result<u32, Fault>
     requires { from ≤ 65535 }
-    ensures { number_says result ≡ or_bad_field (to some (keep (between 1 most) (the_number (number_of (cells line.now from 4))))) }
+    ensures { said result ≡ or_bad_field (keep (between 1 most) (the_number (number_of (cells line.now from 4)))) }
 {
-    let Number::Value(n) = number_at(line, from, 4) else {
-        return Number::Bad;
-    };
-    if !is_counted(n, most) {
-        return Number::Bad;
+    match number_at(line, from, 4)? {
+        Some(n) if is_counted(n, most) => Ok(n),
+        _ => Err(Fault::BadField),
     }
-    Number::Value(n)
 }
 
 fn is_tens(c: u8) -> bool
@@ -188,31 +140,22 @@ fn is_tens(c: u8) -> bool
 fn are_points(a: u8, b: u8, c: u8, d: u8) -> bool
     ensures { result ≡ are_points a b c d }
 {
-    if c != b'.' {
-        return false;
-    }
-    if !is_tens(a) {
-        return false;
-    }
-    if !is_digit(b) {
-        return false;
-    }
-    is_digit(d)
+    c == b'.' && is_tens(a) && is_digit(b) && is_digit(d)
 }
 
-// A points field, which has four columns.
-pub fn points_at(line: &[u8], from: usize) -> Points
+// A points field, which has four columns, in tenths.
+pub fn points_at(line: &[u8], from: usize) -> Result<u32, Fault>
     requires { from ≤ 65535 }
-    ensures { points_says result ≡ or_bad_field (points_of (cells line.now from 4)) }
+    ensures { said result ≡ or_bad_field (points_of (cells line.now from 4)) }
 {
     let a = column(line, from);
     let b = column(line, from + 1);
     let c = column(line, from + 2);
     let d = column(line, from + 3);
     if !are_points(a, b, c, d) {
-        return Points::Bad;
+        return Err(Fault::BadField);
     }
-    Points::Tenths(digit_value(a) * 100 + digit_value(b) * 10 + digit_value(d))
+    Ok(digit_value(a) * 100 + digit_value(b) * 10 + digit_value(d))
 }
 
 // Whether some columns are blank.
@@ -220,12 +163,10 @@ pub fn blank_at(line: &[u8], from: usize, width: usize) -> bool
     requires { (from ≤ 65544) × (width ≤ 65535) }
     ensures { result ≡ all is_blank (cells line.now from width) }
 {
-    let mut i = 0;
-    while i < width {
+    for i in 0..width {
         if column(line, from + i) != b' ' {
             return false;
         }
-        i += 1;
     }
     true
 }
@@ -234,74 +175,60 @@ pub fn blank_at(line: &[u8], from: usize, width: usize) -> bool
 pub fn blank_from(line: &[u8], i: usize) -> bool
     ensures { result ≡ all is_blank (drop i line.now) }
 {
-    let mut k = i;
-    while k < line.len() {
+    for k in i..line.len() {
         if line[k] != b' ' {
             return false;
         }
-        k += 1;
     }
     true
 }
 
 // Digits, of which there may be none, then blanks.
-fn leading_from(line: &[u8], from: usize, width: usize) -> Leading
+fn leading_from(line: &[u8], from: usize, width: usize) -> Result<u32, Fault>
     requires { (from ≤ 65535) × (width ≤ 9) }
-    ensures { leading_says result ≡ or_bad_field (leading_from 0 (cells line.now from width)) }
+    ensures { said result ≡ or_bad_field (leading_from 0 (cells line.now from width)) }
 {
     let mut n: u32 = 0;
-    let mut i = 0;
-    while i < width {
+    for i in 0..width {
         let c = column(line, from + i);
         if !is_digit(c) {
             if blank_at(line, from + i, width - i) {
-                return Leading::Value(n);
+                return Ok(n);
             }
-            return Leading::Bad;
+            return Err(Fault::BadField);
         }
         n = n * 10 + digit_value(c);
-        i += 1;
     }
-    Leading::Value(n)
+    Ok(n)
 }
 
 // Digits from the first column of a field on, then blanks.
-pub fn leading_at(line: &[u8], from: usize, width: usize) -> Leading
+pub fn leading_at(line: &[u8], from: usize, width: usize) -> Result<u32, Fault>
     requires { (from ≤ 65535) × (width ≤ 9) }
-    ensures { leading_says result ≡ or_bad_field (leading_of (cells line.now from width)) }
+    ensures { said result ≡ or_bad_field (leading_of (cells line.now from width)) }
 {
-    if width == 0 {
-        return Leading::Bad;
-    }
-    if !is_digit(column(line, from)) {
-        return Leading::Bad;
+    if width == 0 || !is_digit(column(line, from)) {
+        return Err(Fault::BadField);
     }
     leading_from(line, from, width)
 }
 
 // Whether the line begins with these three bytes.
-pub fn has_code(line: &[u8], a: u8, b: u8, c: u8) -> bool
-    ensures { result ≡ same (cells line.now 0 3) (a ∷ b ∷ c ∷ []) }
+pub fn has_code(line: &[u8], code: &[u8; 3]) -> bool
+    ensures { result ≡ same (cells line.now 0 3) code.now }
 {
-    if column(line, 0) != a {
-        return false;
-    }
-    if column(line, 1) != b {
-        return false;
-    }
-    column(line, 2) == c
+    let [a, b, c] = *code;
+    column(line, 0) == a && column(line, 1) == b && column(line, 2) == c
 }
 
 // The line's length without its trailing blanks.
 pub fn trimmed(line: &[u8]) -> usize
     ensures { result ≡ length (trim line.now) }
 {
-    let mut n = line.len();
-    while 0 < n {
-        if line[n - 1] != b' ' {
-            return n;
+    for n in (0..line.len()).rev() {
+        if line[n] != b' ' {
+            return n + 1;
         }
-        n -= 1;
     }
     0
 }

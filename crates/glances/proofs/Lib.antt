@@ -1,3 +1,4 @@
 pub mod Entries
 pub mod Once
 pub mod Laws
+pub mod Ranges

@@ -20,7 +20,7 @@ or_no : (a b : Bool) → a || b ≡ false → (a ≡ false) × (b ≡ false)
 or_no true b e = (e, let z : ◌≡◌ {A = ℕ} 0 1 = cc in absurd (omega arith))
 or_no false b e = (refl, e)
 
-pub u_is : (results : List ℕ) (place round : ℕ) {i : ℕ} → i ≡ cell_of place round → eqb (get_or results i 0) (code "U") ≡ has_uat results place round
+pub u_is : (results : List ℕ) (place round : ℕ) {v : ℕ} → v ≡ get_or results (cell_of place round) 0 → eqb v (code "U") ≡ has_uat results place round
 unfolding has_uat
 u_is results place round e = rw e refl
 

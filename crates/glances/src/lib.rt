@@ -2,20 +2,18 @@
 // for the first that is not is needed. Promised: a yes is right; after a no the searches of closings and checks tell what is wrong, and where.
 #![tactic(auto)]
 
-ghost use Rattle.std.specs.Prelude.{◌≡◌, true, List, ℕ, ◌*◌, ◌≤◌, ◌<◌, length, get_or};
+ghost use Rattle.std.specs.Prelude.{◌≡◌, true, ◌*◌, ◌≤◌, ◌<◌, length, get_or};
 ghost use Rattle.std.proofs.Math.Option.{none};
 ghost use Rattle.law.specs.Sizes.{most_players, most_rounds};
 ghost use Rattle.law.specs.Entries.{Law};
-ghost use Rattle.law.specs.Tables.{entry_cells};
 ghost use Rattle.join.specs.Grid.{first_from};
 ghost use Rattle.join.specs.Check.{past_cell, broken_cell};
-ghost use Rattle.index.specs.Index.{Indexed, IsIndex};
-ghost use Rattle.results.specs.Order.{IsGrid, IsOrder};
-ghost use Rattle.checks.specs.Laws.{four, Long};
+ghost use Rattle.checks.specs.Laws.{four_of};
 ghost use Rattle.glances.specs.Glance.{Opposite, KeepsEntry, KeepsRow, KeepsRows, Noted, OnceU, BlankRow};
 
-use index::{Placed, START_CELLS};
-use results::{BYTES, GAMES};
+use index::Entries;
+use results::Grid;
+use tables::Tables;
 use types::{MOST_ROUNDS, Place, StartNumber};
 
 // Whether two colours are those of one game.
@@ -31,197 +29,103 @@ fn are_opposite(colour: u8, theirs: u8) -> bool
 
 // Whether an entry is a bye or a game, and a game mutual with results that fit. start: the player's own, read once for all rounds.
 fn keeps_entry(
+    entries: &Entries<'_, '_>,
+    grid: &Grid,
     place: Place,
-    round: u32,
     start: StartNumber,
-    opponents: &[u32],
-    colours: &[u8],
-    results: &[u8],
-    index: &[u8; START_CELLS],
-    grid: &[[bool; GAMES]; GAMES],
-    order: &[u8; BYTES],
+    round: u32,
 ) -> bool
-    requires place_lt_most_players { (place.0 < most_players) × (1 ≤ round) × (round ≤ most_rounds) }
-    requires entry_cells_in_bounds { (entry_cells ≤ length opponents.now) × (entry_cells ≤ length colours.now) × (entry_cells ≤ length results.now) × IsIndex index.now }
-    requires grid { IsGrid grid.now × IsOrder order.now }
-    ensures { result ≡ true → (starts : List ℕ) (n : ℕ) → get_or starts place.0 0 ≡ start.0 → Indexed starts n index.now → KeepsEntry n (four starts opponents.now colours.now results.now) place.0 round }
+    requires place { place.0 < most_players }
+    requires first { 1 ≤ round }
+    requires last { round ≤ most_rounds }
+    ensures { result ≡ true → get_or entries.now.tables.starts.now place.0 0 ≡ start.0 → KeepsEntry entries.now.players (four_of entries.now) place.0 round }
 {
-    let i = tables::cell_of(place, round);
-    let id = StartNumber(opponents[i]);
-    let colour = colours[i];
-    let result = results[i];
-    let opponent = index::place_of(index, id);
-    let Placed::At(other) = opponent else {
+    let id = entries.tables.opponent_at(place, round);
+    let colour = entries.tables.colour_at(place, round);
+    let result = entries.tables.result_at(place, round);
+    let Some(other) = checks::player_of(entries, id) else {
         return checks::is_bye(id, colour, result);
     };
-    if id.0 == start.0 {
-        return false;
-    }
-    let j = tables::cell_of(other, round);
-    let named = StartNumber(opponents[j]);
-    if named.0 != start.0 {
-        return false;
-    }
-    if !are_opposite(colour, colours[j]) {
-        return false;
-    }
-    results::fits(grid, order, result, results[j])
+    let named = entries.tables.opponent_at(other, round);
+    let mutual = (id.0 != start.0) & (named.0 == start.0);
+    mutual
+        && are_opposite(colour, entries.tables.colour_at(other, round))
+        && grid.fits(result, entries.tables.result_at(other, round))
 }
 
 // Whether a player's entries do, up to a round.
-fn keeps_row(
-    place: Place,
-    starts: &[u32],
-    opponents: &[u32],
-    colours: &[u8],
-    results: &[u8],
-    index: &[u8; START_CELLS],
-    grid: &[[bool; GAMES]; GAMES],
-    order: &[u8; BYTES],
-    rounds: u32,
-) -> bool
-    requires place_lt_most_players { (place.0 < most_players) × (rounds ≤ most_rounds) }
-    requires long { Long starts.now opponents.now colours.now results.now × IsIndex index.now }
-    requires grid { IsGrid grid.now × IsOrder order.now }
-    ensures { result ≡ true → (n : ℕ) → Indexed starts.now n index.now → KeepsRow n (four starts.now opponents.now colours.now results.now) place.0 rounds }
+fn keeps_row(entries: &Entries<'_, '_>, grid: &Grid, place: Place) -> bool
+    requires place { place.0 < most_players }
+    requires rounds { entries.now.rounds ≤ most_rounds }
+    ensures { result ≡ true → KeepsRow entries.now.players (four_of entries.now) place.0 entries.now.rounds }
 {
-    let start = tables::start_at(starts, place);
-    let mut j = 0;
-    while j < rounds {
-        if !keeps_entry(
-            place,
-            j + 1,
-            start,
-            opponents,
-            colours,
-            results,
-            index,
-            grid,
-            order,
-        ) {
-            return false;
-        }
-        j += 1;
-    }
-    true
+    let start = entries.tables.start_at(place);
+    (0..entries.rounds).all(|j| keeps_entry(entries, grid, place, start, j + 1))
 }
 
-// Whether those of n players do.
-fn keeps_rows(
-    starts: &[u32],
-    opponents: &[u32],
-    colours: &[u8],
-    results: &[u8],
-    index: &[u8; START_CELLS],
-    grid: &[[bool; GAMES]; GAMES],
-    order: &[u8; BYTES],
-    n: usize,
-    rounds: u32,
-) -> bool
-    requires rounds_le_most_rounds { rounds ≤ most_rounds }
-    requires long { Long starts.now opponents.now colours.now results.now × Indexed starts.now n index.now }
-    requires grid { IsGrid grid.now × IsOrder order.now }
-    ensures { result ≡ true → KeepsRows n (four starts.now opponents.now colours.now results.now) n rounds }
+// Whether those of all players do.
+fn keeps_rows(entries: &Entries<'_, '_>, grid: &Grid) -> bool
+    requires { entries.now.rounds ≤ most_rounds }
+    ensures { result ≡ true → KeepsRows entries.now.players (four_of entries.now) entries.now.players entries.now.rounds }
 {
-    let mut p = 0;
-    while p < n {
-        let place = Place(p as u32);
-        if !keeps_row(
-            place, starts, opponents, colours, results, index, grid, order, rounds,
-        ) {
-            return false;
-        }
-        p += 1;
-    }
-    true
+    (0..entries.players).all(|p| keeps_row(entries, grid, Place(p as u32)))
 }
 
 // Notes the rounds in which a player has U. Whether an earlier player had it in one of them: no exit, so that many rounds are compared at a time.
-fn note_u(results: &[u8], place: Place, seen: &mut [bool; MOST_ROUNDS]) -> bool
-    requires { (place.0 < most_players) × (entry_cells ≤ length results.now) × (length seen.old ≡ most_rounds) }
-    ensures { Noted results.now place.0 seen.old seen.new result }
+fn note_u(tables: &Tables<'_>, place: Place, seen: &mut [bool; MOST_ROUNDS]) -> bool
+    requires place { place.0 < most_players }
+    requires long { length seen.old ≡ most_rounds }
+    ensures { Noted tables.now.results.now place.0 seen.old seen.new result }
 {
     let mut again = false;
-    let mut j = 0;
-    while j < MOST_ROUNDS {
-        let i = tables::cell_of(place, j as u32 + 1);
-        let here = results::is_allocated(results[i]);
+    for j in 0..MOST_ROUNDS {
+        let here = results::is_allocated(tables.result_at(place, j as u32 + 1));
         let earlier = seen[j];
         again = again | (here & earlier);
         seen[j] = earlier | here;
-        j += 1;
     }
     again
 }
 
-// Whether no two of n players have U in one round.
-fn keeps_one_u(results: &[u8], n: usize) -> bool
-    requires { (n ≤ most_players) × (entry_cells ≤ length results.now) }
-    ensures { result ≡ true → OnceU results.now n }
+// Whether no two players have U in one round.
+fn keeps_one_u(entries: &Entries<'_, '_>) -> bool
+    ensures { result ≡ true → OnceU entries.now.tables.results.now entries.now.players }
 {
     let mut seen = [false; MOST_ROUNDS];
-    let mut p = 0;
-    while p < n {
-        if note_u(results, Place(p as u32), &mut seen) {
+    for p in 0..entries.players {
+        if note_u(&entries.tables, Place(p as u32), &mut seen) {
             return false;
         }
-        p += 1;
     }
     true
 }
 
-// Whether the cells of a place hold zero from a round on, counted from 0.
-fn is_row_blank(t: &[u8], place: Place, from: u32) -> bool
-    requires { (place.0 < most_players) × (entry_cells ≤ length t.now) }
-    ensures { result ≡ true → BlankRow t.now place.0 from }
+// Whether the colours of a place hold zero from a round on, counted from 0: no exit, so that many rounds are compared at a time.
+fn is_row_blank(tables: &Tables<'_>, place: Place, from: u32) -> bool
+    requires { place.0 < most_players }
+    ensures { result ≡ true → BlankRow tables.now.colours.now place.0 from }
 {
     let mut good = true;
-    let mut j = from as usize;
-    while j < MOST_ROUNDS {
-        let i = tables::cell_of(place, j as u32 + 1);
-        good = good & (t[i] == 0);
-        j += 1;
+    for j in from as usize..MOST_ROUNDS {
+        good = good & (tables.colour_at(place, j as u32 + 1) == 0);
     }
     good
 }
 
-// Whether no cell of n players past the rounds that there are holds anything.
-pub fn none_past(colours: &[u8], n: usize, rounds: u32) -> bool
-    requires { (n ≤ most_players) × (entry_cells ≤ length colours.now) }
-    ensures { result ≡ true → first_from (past_cell rounds colours.now) 0 (n * most_rounds) ≡ none }
+// Whether no cell of the players past the rounds that there are holds anything.
+pub fn none_past(tables: &Tables<'_>, players: usize, rounds: u32) -> bool
+    requires { players ≤ most_players }
+    ensures { result ≡ true → first_from (past_cell rounds tables.now.colours.now) 0 (players * most_rounds) ≡ none }
 {
-    let mut p = 0;
-    while p < n {
-        if !is_row_blank(colours, Place(p as u32), rounds) {
-            return false;
-        }
-        p += 1;
-    }
-    true
+    (0..players).all(|p| is_row_blank(tables, Place(p as u32), rounds))
 }
 
-// Whether every entry of n players, up to a round, keeps the four laws.
-pub fn all_lawful(
-    starts: &[u32],
-    opponents: &[u32],
-    colours: &[u8],
-    results: &[u8],
-    index: &[u8; START_CELLS],
-    n: usize,
-    rounds: u32,
-) -> bool
-    requires { Long starts.now opponents.now colours.now results.now × Indexed starts.now n index.now }
-    ensures { result ≡ true → (law : Law) → first_from (broken_cell law n rounds (four starts.now opponents.now colours.now results.now)) 0 (n * most_rounds) ≡ none }
+// Whether every entry of the players, up to a round, keeps the four laws.
+pub fn all_lawful(entries: &Entries<'_, '_>) -> bool
+    ensures { result ≡ true → (law : Law) → first_from (broken_cell law entries.now.players entries.now.rounds (four_of entries.now)) 0 (entries.now.players * most_rounds) ≡ none }
 {
-    if MOST_ROUNDS < rounds as usize {
+    if MOST_ROUNDS < entries.rounds as usize {
         return false;
     }
-    let grid = results::grid();
-    let order = results::order();
-    if !keeps_rows(
-        starts, opponents, colours, results, index, &grid, &order, n, rounds,
-    ) {
-        return false;
-    }
-    keeps_one_u(results, n)
+    keeps_rows(entries, &Grid::new()) && keeps_one_u(entries)
 }

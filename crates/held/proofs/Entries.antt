@@ -7,18 +7,13 @@ use native.Mathlib.Decide.{dec_lt}
 use native.Mathlib.Omega.{arith}
 use borrow.Author.Tests.{lt-ltb, le-ltb}
 use lib.ListN.{get_or}
-use lib.Dec.{eqb}
 use Rattle.law.specs.Sizes.{most_players, most_rounds}
 use Rattle.law.specs.Tables.{cell_of, place_in, round_in}
 use Rattle.join.proofs.Keeps.{by_player}
 use Rattle.texts.specs.Kept.{Told}
-use Rattle.readings.specs.Good.{UnusedEntries}
+use Rattle.readings.specs.Good.{UnusedCells}
 use Rattle.held.specs.Rows.{unused_from, UnusedRow}
-use Rattle.held.proofs.Passed.{told_as, told_eq}
-
--- i is the cell of a place and a round
-pub cell_told : (cells : List ℕ) (i place round : ℕ) → i ≡ cell_of place round → Told (get_or cells (cell_of place round) 0 ≡ 0) (eqb (get_or cells i 0) 0)
-cell_told cells i place round e = subst (λ (j : ℕ). Told (get_or cells j 0 ≡ 0) (eqb (get_or cells i 0) 0)) e (told_eq (get_or cells i 0) 0)
+use Rattle.texts.proofs.Told.{told_as}
 
 -- as far as a round is used
 pub used-from : (n R place : ℕ) → place < n → R ≡ unused_from n R place
@@ -27,16 +22,16 @@ used-from n R place l = rw (lt-ltb place n l) refl
 pub unused_all : (n R place : ℕ) → n ≤ place → 0 ≡ unused_from n R place
 unused_all n R place l = rw (le-ltb place n l) refl
 
-module _ (n R : ℕ) (cells : List ℕ) where
+module _ {A : Type 0} (d : A) (n R : ℕ) (cells : List A) where
   abbrev pub Row : ℕ → Type 0
-  Row place = UnusedRow cells place (unused_from n R place)
+  Row place = UnusedRow d cells place (unused_from n R place)
 
-  by_cell : ((place : ℕ) → place < most_players → Row place) → UnusedEntries n R cells
+  by_cell : ((place : ℕ) → place < most_players → Row place) → UnusedCells d n R cells
   by_cell h i l unused =
       let r = by_player.round_in i l in
       let j : ℕ = round_in i - 1 in
       let e : j + 1 ≡ round_in i = omega (arith, r.0) in
-      ap (λ (c : ℕ). get_or cells c 0) (sym (ap (cell_of (place_in i)) e ∙ by_player.back i l))
+      ap (λ (c : ℕ). get_or cells c d) (sym (ap (cell_of (place_in i)) e ∙ by_player.back i l))
       ∙ h (place_in i) (by_player.place_in_lem i l) j (go (dec_lt (place_in i) n)) (omega (arith, r.0, r.1))
     where
       go : Dec (place_in i < n) → unused_from n R (place_in i) ≤ round_in i - 1
@@ -47,7 +42,7 @@ module _ (n R : ℕ) (cells : List ℕ) where
           past (no b) = let z : R < round_in i → ⊥ = b in absurd (unused (a, omega arith))
       go (no a) = let z : place_in i < n → ⊥ = a in subst (λ (x : ℕ). x ≤ round_in i - 1) (unused_all n R (place_in i) (omega arith)) (omega arith)
 
-  by_row : UnusedEntries n R cells → (place : ℕ) → place < most_players → Row place
+  by_row : UnusedCells d n R cells → (place : ℕ) → place < most_players → Row place
   by_row h place p j from high =
       let low : 1 ≤ j + 1 = omega arith in
       let top : j + 1 ≤ most_rounds = omega arith in
@@ -59,8 +54,8 @@ module _ (n R : ℕ) (cells : List ℕ) where
       not_used : place < n → j + 1 ≤ R → ⊥
       not_used s t = let z = used-from n R place s in omega (arith, z, from)
 
-  pub entries-told : {good : Bool} → Told ((place : ℕ) → place < most_players → Row place) good → Told (UnusedEntries n R cells) good
+  pub entries-told : {good : Bool} → Told ((place : ℕ) → place < most_players → Row place) good → Told (UnusedCells d n R cells) good
   entries-told t = told_as by_cell by_row t
 
-  pub row_told : (place : ℕ) {from : ℕ} → from ≡ unused_from n R place → {good : Bool} → Told (UnusedRow cells place from) good → Told (Row place) good
-  row_told place e {good} t = subst (λ (x : ℕ). Told (UnusedRow cells place x) good) e t
+  pub row_told : (place : ℕ) {from : ℕ} → from ≡ unused_from n R place → {good : Bool} → Told (UnusedRow d cells place from) good → Told (Row place) good
+  row_told place e {good} t = subst (λ (x : ℕ). Told (UnusedRow d cells place x) good) e t

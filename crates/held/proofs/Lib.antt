@@ -1,3 +1,3 @@
-pub mod Passed
+pub mod Runs
 pub mod Entries
 pub mod Differ

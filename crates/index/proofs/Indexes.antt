@@ -17,7 +17,7 @@ use Rattle.law.specs.Sizes.{most_start}
 use Rattle.join.specs.Grid.{first_from}
 use Rattle.join.specs.Store.{place_of}
 use Rattle.join.proofs.Firsts.{first_as}
-use Rattle.index.specs.declared.Placed.TheVariants.{At, Nobody}
+use Rattle.std.specs.Prelude.{Some, None}
 use Rattle.index.specs.Index.{IndexOf, LowStarts, index_cell, as_placed}
 
 -- ---- one more to look at, at the end
@@ -90,20 +90,20 @@ unfolding place_of
 nobody_above starts n id low h =
     first_as (λ i. eqb (get_or starts i 0) id) (λ i. false) 0 n (λ k a l. ne_eqb (get_or starts k 0) id (λ e. omega (arith, low k (omega arith)))) ∙ never 0 n
 
-pub above : (starts : List ℕ) (n id : ℕ) → LowStarts starts n → most_start < id → Nobody ≡ as_placed (place_of starts n id)
+pub above : (starts : List ℕ) (n id : ℕ) → LowStarts starts n → most_start < id → None ≡ as_placed (place_of starts n id)
 above starts n id low h = rw (nobody_above starts n id low h) refl
 
 module _ (starts : List ℕ) (n : ℕ) (index : List ℕ) (id : ℕ) where
-  pub cell_none : IndexOf starts n index → id ≤ most_start → get_or index id 0 ≡ 0 → Nobody ≡ as_placed (place_of starts n id)
+  pub cell_none : IndexOf starts n index → id ≤ most_start → get_or index id 0 ≡ 0 → None ≡ as_placed (place_of starts n id)
   cell_none x h e = go (place_of starts n id) (sym (x.says id h) ∙ e)
     where
-      go : (o : Option ℕ) → index_cell o ≡ 0 → Nobody ≡ as_placed o
+      go : (o : Option ℕ) → index_cell o ≡ 0 → None ≡ as_placed o
       go none q = refl
       go (some p) q = absurd (omega arith)
 
-  pub cell_some : IndexOf starts n index → id ≤ most_start → (v : ℕ) → v ≡ get_or index id 0 → (v ≡ 0 → ⊥) → At (record { 0 = v - 1 }) ≡ as_placed (place_of starts n id)
+  pub cell_some : IndexOf starts n index → id ≤ most_start → (v : ℕ) → v ≡ get_or index id 0 → (v ≡ 0 → ⊥) → Some (record { 0 = v - 1 }) ≡ as_placed (place_of starts n id)
   cell_some x h v e z = go (place_of starts n id) (e ∙ x.says id h)
     where
-      go : (o : Option ℕ) → v ≡ index_cell o → At (record { 0 = v - 1 }) ≡ as_placed o
+      go : (o : Option ℕ) → v ≡ index_cell o → Some (record { 0 = v - 1 }) ≡ as_placed o
       go none q = absurd (z q)
       go (some p) q = let s : v - 1 ≡ p = omega arith in rw s refl

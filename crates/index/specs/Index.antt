@@ -3,8 +3,9 @@ use Rattle.std.specs.Prelude.{◌≡◌, List, ℕ, ◌+◌, ◌≤◌, ◌<◌,
 use Rattle.std.proofs.Math.Option.{Option, none, some}
 use Rattle.law.specs.Sizes.{most_players, most_start}
 use Rattle.join.specs.Store.{place_of}
-use Rattle.index.specs.declared.Placed.{Placed}
-use Rattle.index.specs.declared.Placed.TheVariants.{At, Nobody}
+use Rattle.std.specs.Prelude as program
+use Rattle.types.specs.declared.Place.{Place}
+use Rattle.std.specs.Prelude.{Some, None}
 
 abbrev pub index_cell : Option ℕ → ℕ
 index_cell none = 0
@@ -32,6 +33,6 @@ pub record IsIndex (index : List ℕ) : Type 0 where
   pub indexed : Indexed starts players index
 
 -- what a look-up answers
-abbrev pub as_placed : Option ℕ → Placed
-as_placed none = Nobody
-as_placed (some place) = At (record { 0 = place })
+abbrev pub as_placed : Option ℕ → program.Option Place
+as_placed none = None
+as_placed (some place) = Some (record { 0 = place })

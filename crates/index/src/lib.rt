@@ -1,22 +1,26 @@
-// The index of start numbers: a cell for each number, which says whose it is. Promised: a look-up answers what join's search through the start numbers
-// answers, and one player more in the index is one cell changed.
+// The index of start numbers: a cell for each number, which says whose it is; and the entries of some players with it, which most checks look at. Promised: a look-up answers what join's search through
+// the start numbers answers, and one player more in the index is one cell changed.
 #![tactic(auto)]
 
 ghost use Rattle.std.specs.Prelude.{◌≡◌, List, ℕ, ◌+◌, ◌≤◌, ◌<◌, set};
 ghost use Rattle.law.specs.Sizes.{most_players, most_start};
 ghost use Rattle.join.specs.Store.{place_of};
-ghost use Rattle.index.specs.Index.{IndexOf, LowStarts, as_placed};
+ghost use Rattle.index.specs.Index.{IndexOf, LowStarts, Indexed, as_placed};
 
+use tables::Tables;
 use types::{MOST_START, Place, StartNumber};
 
 // The index of the start numbers has a cell for each: the place of its player plus one, or 0.
 pub const START_CELLS: usize = MOST_START as usize + 1;
 
-// A player, or nobody: whom a start number names, or the first of whom something is found.
-#[derive(Drop)]
-pub enum Placed {
-    At(Place),
-    Nobody,
+// The entries of some players up to a round, and the index of these players' start numbers.
+#[derive(Clone, Copy)]
+pub struct Entries<'t, 'i> {
+    pub tables: Tables<'t>,
+    pub index: &'i [u8; START_CELLS],
+    pub players: usize,
+    pub rounds: u32,
+    pub ghost indexed: { Indexed tables.starts.now players index.now },
 }
 
 // One player more in the index.
@@ -28,25 +32,17 @@ pub fn index_start(index: &mut [u8; START_CELLS], start: StartNumber, place: Pla
     index[i] = (place.0 + 1) as u8;
 }
 
-// What is read of a lent array brings no bound with it; a parameter does.
-fn wide(x: u8) -> u32
-    ensures { result ≡ x }
-{
-    x as u32
-}
-
 // The player with a start number, by the index. No player has a number that the index has no cell for.
-pub fn place_of(index: &[u8; START_CELLS], start: StartNumber) -> Placed
+pub fn place_of(index: &[u8; START_CELLS], start: StartNumber) -> Option<Place>
     ensures { (starts : List ℕ) (n : ℕ) → IndexOf starts n index.now → LowStarts starts n → result ≡ as_placed (place_of starts n start.0) }
 {
     let id = start.0;
     if MOST_START < id {
-        return Placed::Nobody;
+        return None;
     }
-    let i = id as usize;
-    let place = wide(index[i]);
+    let place = u32::from(index[id as usize]);
     if place == 0 {
-        return Placed::Nobody;
+        return None;
     }
-    Placed::At(Place(place - 1))
+    Some(Place(place - 1))
 }

@@ -101,11 +101,11 @@ module _ {n places rounds : ℕ} {cell : ℕ → ℕ → ℕ} {place round : ℕ
     own : (r : ℕ) → 1 ≤ r → r ≤ k → get_or y (cell p r) 0 ≡ get_or v (r - 1) 0
     same : (i : ℕ) → ((r : ℕ) → 1 ≤ r → r ≤ k → i ≡ cell p r → ⊥) → get_or y i 0 ≡ get_or x i 0
 
-  rowed : (x : List ℕ) (p : ℕ) (v : List ℕ) → n ≤ length x → p < places → (k : ℕ) → k ≤ rounds → Rowed x p v k (put_row cell x p v k)
+  rowed : (x : List ℕ) (p : ℕ) (v : List ℕ) → n ≤ length x → p < places → (k : ℕ) → k ≤ rounds → Rowed x p v k (put_row 0 cell x p v k)
   unfolding put_row
   rowed x p v room l zero m = record { long = refl; own = λ r a c. absurd (omega arith); same = λ i _. refl }
   rowed x p v room l (suc k) m =
-      let y : List ℕ = put_row cell x p v k in
+      let y : List ℕ = put_row 0 cell x p v k in
       let ih : Rowed x p v k y = rowed x p v room l k (omega arith) in
       let inn : cell p (suc k) < length y = let z = ih.long in let w = o.within p (suc k) l (omega arith) m in omega arith in
       record {
@@ -126,7 +126,7 @@ module _ {n places rounds : ℕ} {cell : ℕ → ℕ → ℕ} {place round : ℕ
       → Holds 0 n (λ i. e (place i) (round i)) b x
       → ((r : ℕ) → 1 ≤ r → r ≤ rounds → get_or v (r - 1) 0 ≡ g p r)
       → ((q r : ℕ) → (q ≡ p → ⊥) → e q r ≡ g q r)
-      → Holds 0 n (λ i. g (place i) (round i)) b (put_row cell x p v rounds)
+      → Holds 0 n (λ i. g (place i) (round i)) b (put_row 0 cell x p v rounds)
   grid_row e g b x room p l v h own others =
       record {
         long = w.long ∙ h.long;
@@ -134,10 +134,10 @@ module _ {n places rounds : ℕ} {cell : ℕ → ℕ → ℕ} {place round : ℕ
         rest = λ i m. w.same i (λ r a c q. let z = o.within p r l a c in omega arith) ∙ h.rest i m;
       }
     where
-      w : Rowed x p v rounds (put_row cell x p v rounds)
+      w : Rowed x p v rounds (put_row 0 cell x p v rounds)
       w = rowed x p v (let z = h.long in omega arith) l rounds (omega arith)
 
-      at : (i : ℕ) → i < n → Dec (place i ≡ p) → get_or (put_row cell x p v rounds) i 0 ≡ g (place i) (round i)
+      at : (i : ℕ) → i < n → Dec (place i ≡ p) → get_or (put_row 0 cell x p v rounds) i 0 ≡ g (place i) (round i)
       at i m (yes e) =
           let r = o.round_in i m in
           let there : cell p (round i) ≡ i = rw (← e) (o.back i m) in
@@ -147,7 +147,7 @@ module _ {n places rounds : ℕ} {cell : ℕ → ℕ → ℕ} {place round : ℕ
   -- a row of values after those that are there: part of each value, 0 where there is none
   pub grid_snoc : {E : Type 0} (part : E → ℕ) (absent : E) → part absent ≡ 0 → (es : List (List E)) (b x : List ℕ) → n ≤ length b → length es < places → (v : List E)
       → Holds 0 n (λ i. entry_in part absent es (place i) (round i)) b x
-      → Holds 0 n (λ i. entry_in part absent (es ++ (v ∷ [])) (place i) (round i)) b (put_row cell x (length es) (map part v) rounds)
+      → Holds 0 n (λ i. entry_in part absent (es ++ (v ∷ [])) (place i) (round i)) b (put_row 0 cell x (length es) (map part v) rounds)
   grid_snoc {E} part absent z es b x room l v h =
       grid_row (entry_in part absent es) (entry_in part absent (es ++ (v ∷ []))) b x room (length es) l (map part v) h
       (λ r a c. ap (get_or (map part v) (r - 1)) (sym z) ∙ get_or-map part v (r - 1) absent ∙ ap (λ (u : List E). part (get_or u (r - 1) absent)) (sym (get_or-append_seam es v [] [])))

@@ -70,12 +70,12 @@ module _ (is : List Item) (p : PlayerLine) where
 
   -- a part of each entry
   entries-kept : (part : Entry → ℕ) → part no_entry ≡ 0 → (b x : List ℕ) → entry_cells ≤ length b → length rows < most_players → Holds 0 entry_cells (raw_grid part rows) b x
-      → Holds 0 entry_cells (raw_grid part (flat player_in (is ++ (player p ∷ [])))) b (put_row cell_of x (length rows) (map part (raw_cells p)) most_rounds)
+      → Holds 0 entry_cells (raw_grid part (flat player_in (is ++ (player p ∷ [])))) b (put_row 0 cell_of x (length rows) (map part (raw_cells p)) most_rounds)
   entries-kept part z b x room few h =
       let n = length-map rows raw_cells in
       let e : map raw_cells (flat player_in (is ++ (player p ∷ []))) ≡ map raw_cells rows ++ (raw_cells p ∷ []) = ap (map raw_cells) rows_more ∙ map-append raw_cells rows (p ∷ []) in
-      subst (λ (es : List (List Entry)). Holds 0 entry_cells (λ i. entry_in part no_entry es (place_in i) (round_in i)) b (put_row cell_of x (length rows) (map part (raw_cells p)) most_rounds)) (sym e)
-      (subst (λ (k : ℕ). Holds 0 entry_cells (λ i. entry_in part no_entry (map raw_cells rows ++ (raw_cells p ∷ [])) (place_in i) (round_in i)) b (put_row cell_of x k (map part (raw_cells p)) most_rounds)) n
+      subst (λ (es : List (List Entry)). Holds 0 entry_cells (λ i. entry_in part no_entry es (place_in i) (round_in i)) b (put_row 0 cell_of x (length rows) (map part (raw_cells p)) most_rounds)) (sym e)
+      (subst (λ (k : ℕ). Holds 0 entry_cells (λ i. entry_in part no_entry (map raw_cells rows ++ (raw_cells p ∷ [])) (place_in i) (round_in i)) b (put_row 0 cell_of x k (map part (raw_cells p)) most_rounds)) n
       (grid_snoc by_player part no_entry z (map raw_cells rows) b x room (omega arith) (raw_cells p) h))
 
   kept-kept : (b x : List ℕ) → kept_cells ≤ length b → length rows < most_players → AllOf LawfulLine rows → LawfulLine p → Holds 0 kept_cells (cells_of (flat (λ (p : PlayerLine). p.kept) rows)) b x

@@ -11,10 +11,10 @@ pub record Order (n places rounds : ℕ) (cell : ℕ → ℕ → ℕ) (place rou
   pub place_in_lem : (i : ℕ) → i < n → place i < places
   pub round_in : (i : ℕ) → i < n → (1 ≤ round i) × (round i ≤ rounds)
 
--- the first k of a row's values in the cells of place p
-unfoldable pub put_row : (ℕ → ℕ → ℕ) → List ℕ → ℕ → List ℕ → ℕ → List ℕ
-put_row cell x p v zero = x
-put_row cell x p v (suc k) = set (put_row cell x p v k) (cell p (suc k)) (get_or v k 0)
+-- the first k of a row's values in the cells of place p; d is what a value past the row's end reads as
+unfoldable pub put_row : {A : Type 0} → A → (ℕ → ℕ → ℕ) → List A → ℕ → List A → ℕ → List A
+put_row d cell x p v zero = x
+put_row d cell x p v (suc k) = set (put_row d cell x p v k) (cell p (suc k)) (get_or v k d)
 
 -- part of the entry at place p and round r
 abbrev pub entry_in : {E : Type 0} → (E → ℕ) → E → List (List E) → ℕ → ℕ → ℕ

@@ -79,9 +79,9 @@ store_player p n ln t =
       points = set t.points n p.points;
       ranks = set t.ranks n p.rank;
       kept = paste t.kept (n * width kept_field) p.kept (width kept_field);
-      opponents = put_row cell_of t.opponents n (map (λ e. e.id) (raw_cells p)) 20;
-      colours = put_row cell_of t.colours n (map (λ e. e.colour) (raw_cells p)) 20;
-      results = put_row cell_of t.results n (map (λ e. e.result) (raw_cells p)) 20;
+      opponents = put_row 0 cell_of t.opponents n (map (λ e. e.id) (raw_cells p)) 20;
+      colours = put_row 0 cell_of t.colours n (map (λ e. e.colour) (raw_cells p)) 20;
+      results = put_row 0 cell_of t.results n (map (λ e. e.result) (raw_cells p)) 20;
       text = t.text;
       lines = set t.lines n ln;
     }

@@ -2,117 +2,120 @@
 // whole file, over the cells.
 #![tactic(auto)]
 
-ghost use Rattle.std.specs.Prelude.{◌≡◌, true, List, ◌≤◌, length};
-ghost use Rattle.types.specs.declared.Acceleration as lent;
+ghost use Rattle.std.specs.Prelude.{◌≡◌, true, ◌≤◌, ℕ, length, take, IfOk};
 ghost use Rattle.law.specs.Sizes.{most_players, most_rounds};
-ghost use Rattle.law.specs.Tables.{entry_cells, line_cells};
 ghost use Rattle.join.specs.Store.{Nine};
-ghost use Rattle.join.specs.Check.{rounds_found, verdict};
+ghost use Rattle.join.specs.Check.{rounds_found, verdict, Closes};
 ghost use Rattle.index.specs.Index.{Indexed};
 ghost use Rattle.closings.specs.Values.{are_small};
-ghost use Rattle.checks.specs.Laws as laws;
-ghost use Rattle.verdicts.specs.Verdict.{as_verdict};
-ghost use Rattle.steps.specs.Counts.{as_count, Small};
-ghost use Rattle.judges.specs.Closing.{is_complete, past_in, dash, zed, ClosedBy};
+ghost use Rattle.tables.specs.Lent.{nine_of, SameLent};
+ghost use Rattle.verdicts.specs.Verdict.{refusal_in};
+ghost use Rattle.steps.specs.Counts.{as_count, values_by};
+ghost use Rattle.judges.specs.Closing.{is_complete, past_in};
 
-use index::START_CELLS;
+use index::{Entries, START_CELLS};
 use results::BLANK_BYE;
+use scorings::Scoring;
 use steps::Counts;
-use types::{Acceleration, LineNumber, MOST_ACCELERATIONS};
-use verdicts::Verdict;
+use tables::{LineNumbers, Tables, TablesMut};
+use types::{Acceleration, Fault, Refusal, VALUES};
 
 // Whether there are a 012 and a player (else 10).
-fn is_complete(c: Counts) -> bool
-    ensures { (rs : List lent.Acceleration) → result ≡ is_complete (as_count c rs) }
+fn is_complete(counts: &Counts) -> bool
+    ensures { result ≡ is_complete (as_count counts.now) }
 {
-    let seen = c.seen;
-    seen[0] & (0 < c.players)
+    counts.seen[0] & (0 < counts.players)
+}
+
+// The values of W D L A P X: the defaults where no line gives any.
+pub fn values_of(counts: &Counts) -> [u32; VALUES]
+    ensures { result ≡ values_by counts.now.scoring }
+{
+    match counts.scoring {
+        Some(scoring) => scoring.values,
+        None => Scoring::DEFAULTS.values,
+    }
+}
+
+// The acceleration records that were read.
+fn records_of(counts: &Counts) -> &[Acceleration]
+    ensures first { result.now ≡ take counts.now.accelerations counts.now.records }
+    ensures within { counts.now.accelerations ≤ length counts.now.records }
+{
+    &counts.records[..counts.accelerations]
 }
 
 // The first refusal of the whole file, after the closing pass. past: what 11 found before it.
 fn judge(
-    c: Counts,
-    records: [Acceleration; MOST_ACCELERATIONS],
-    rounds: u32,
-    past: Verdict,
-    index: &[u8; START_CELLS],
-    starts: &[u32],
-    points: &[u32],
-    opponents: &[u32],
-    colours: &[u8],
-    results: &[u8],
-    lines: &[u32],
-) -> Verdict
-    requires long { laws.Long starts.now opponents.now colours.now results.now × Indexed starts.now c.players index.now }
-    requires most_players_in_bounds { (most_players ≤ length points.now) × (line_cells ≤ length lines.now) × (rounds ≤ most_rounds) × (are_small c.values ≡ true) × Small c }
-    ensures { (x y : Nine) → y.starts ≡ starts.now → y.points ≡ points.now → y.opponents ≡ opponents.now → y.colours ≡ colours.now → y.results ≡ results.now → y.lines ≡ lines.now → x.lines ≡ lines.now → past ≡ as_verdict (past_in (as_count c records) rounds x) → result ≡ as_verdict (verdict (as_count c records) rounds x y) }
+    counts: &Counts,
+    past: Result<(), Refusal>,
+    entries: &Entries<'_, '_>,
+    lines: &LineNumbers<'_>,
+) -> Result<(), Refusal>
+    requires players { entries.now.players ≡ counts.now.players }
+    requires rounds { entries.now.rounds ≤ most_rounds }
+    requires small { are_small (values_by counts.now.scoring) ≡ true }
+    ensures { (x y : Nine) → y.starts ≡ entries.now.tables.starts.now → y.points ≡ entries.now.tables.points.now → y.opponents ≡ entries.now.tables.opponents.now → y.colours ≡ entries.now.tables.colours.now → y.results ≡ entries.now.tables.results.now → y.lines ≡ lines.now.numbers.now → x.lines ≡ lines.now.numbers.now → refusal_in past ≡ past_in (as_count counts.now) entries.now.rounds x → refusal_in result ≡ verdict (as_count counts.now) entries.now.rounds x y }
 {
-    if !is_complete(c) {
-        return Verdict {
-            number: 10,
-            line: LineNumber(0),
-            round: 0,
-        };
+    if !is_complete(counts) {
+        return Err(Refusal::from(Fault::Incomplete));
     }
-    if past.number != 0 {
-        return past;
-    }
-    let n = c.players;
-    let shared = verdicts::sharing(records, c.accelerations, lines);
-    if shared.number != 0 {
-        return shared;
-    }
-    let unlawful = verdicts::first_unlawful(
-        starts, opponents, colours, results, lines, index, n, rounds,
-    );
-    if unlawful.number != 0 {
-        return unlawful;
-    }
-    let values = c.values;
-    verdicts::wrong_points(points, results, values, lines, n, rounds)
+    past?;
+    verdicts::sharing(records_of(counts), lines)?;
+    verdicts::first_unlawful(entries, lines)?;
+    verdicts::wrong_points(
+        &entries.tables,
+        values_of(counts),
+        lines,
+        entries.players,
+        entries.rounds,
+    )
 }
 
 // The number of rounds: what 142 says, or the highest round with an entry.
-fn rounds_of(c: Counts, colours: &[u8]) -> u32
-    requires { (c.players ≤ most_players) × (entry_cells ≤ length colours.now) }
-    ensures { (rs : List lent.Acceleration) → result ≡ rounds_found (as_count c rs) colours.now }
+fn rounds_of(counts: &Counts, tables: &Tables<'_>) -> u32
+    ensures { result ≡ rounds_found (as_count counts.now) tables.now.colours.now }
 {
-    if c.stated {
-        return c.rounds;
+    match counts.rounds {
+        Some(rounds) => rounds,
+        None => closings::rounds_seen(tables, counts.players),
     }
-    closings::rounds_seen(colours, c.players)
 }
 
-// The number of rounds, and the first refusal of the whole file.
-#[derive(Drop)]
-pub struct Finished {
-    pub rounds: u32,
-    pub verdict: Verdict,
-}
-
-// After the last line: the number of rounds, 11, the closing pass, and the other checks.
-pub fn finish(
-    c: Counts,
-    records: [Acceleration; MOST_ACCELERATIONS],
-    index: &[u8; START_CELLS],
-    starts: &[u32],
-    points: &[u32],
-    opponents: &[u32],
-    colours: &mut [u8],
-    results: &mut [u8],
-    lines: &[u32],
-) -> Finished
-    requires long { laws.Long starts.now opponents.now colours.old results.old × Indexed starts.now c.players index.now }
-    requires most_players_in_bounds { (most_players ≤ length points.now) × (line_cells ≤ length lines.now) × (rounds_found (as_count c records) colours.old ≤ most_rounds) × (are_small c.values ≡ true) × Small c }
-    ensures { (result.rounds ≡ rounds_found (as_count c records) colours.old) × ClosedBy dash c.players result.rounds colours.old colours.new × ClosedBy zed c.players result.rounds results.old results.new × ((x y : Nine) → x.colours ≡ colours.old → x.lines ≡ lines.now → y.starts ≡ starts.now → y.points ≡ points.now → y.opponents ≡ opponents.now → y.colours ≡ colours.new → y.results ≡ results.new → y.lines ≡ lines.now → result.verdict ≡ as_verdict (verdict (as_count c records) result.rounds x y)) }
+// The closing pass on colours and results.
+fn close(tables: &mut TablesMut<'_>, n: usize, rounds: u32)
+    requires { n ≤ most_players }
+    ensures same { SameLent tables.old tables.new }
+    ensures closes { Closes n rounds (nine_of tables.old) (nine_of tables.new) }
 {
-    let rounds = rounds_of(c, colours);
-    let n = c.players;
-    let past = verdicts::past(colours, lines, n, rounds);
-    closings::close(colours, n, rounds, b'-');
-    closings::close(results, n, rounds, BLANK_BYE);
-    let verdict = judge(
-        c, records, rounds, past, index, starts, points, opponents, colours, results, lines,
-    );
-    Finished { rounds, verdict }
+    closings::close(tables.colours, n, rounds, b'-');
+    closings::close(tables.results, n, rounds, BLANK_BYE);
+}
+
+// After the last line: the number of rounds, or the first refusal of the whole file; 11 before the closing pass, and the other checks after it.
+pub fn finish(
+    counts: &Counts,
+    index: &[u8; START_CELLS],
+    tables: &mut TablesMut<'_>,
+) -> Result<u32, Refusal>
+    requires indexed { Indexed tables.old.starts.now counts.now.players index.now }
+    requires rounds { rounds_found (as_count counts.now) tables.old.colours.now ≤ most_rounds }
+    requires small { are_small (values_by counts.now.scoring) ≡ true }
+    ensures same { SameLent tables.old tables.new }
+    ensures closes { Closes counts.now.players (rounds_found (as_count counts.now) tables.old.colours.now) (nine_of tables.old) (nine_of tables.new) }
+    ensures verdict { refusal_in result ≡ verdict (as_count counts.now) (rounds_found (as_count counts.now) tables.old.colours.now) (nine_of tables.old) (nine_of tables.new) }
+    ensures rounds { IfOk result (λ rounds. rounds ≡ rounds_found (as_count counts.now) tables.old.colours.now) }
+{
+    let n = counts.players;
+    let rounds = rounds_of(counts, &tables.shared());
+    let past = verdicts::past(&tables.shared(), &tables.line_numbers(), n, rounds);
+    close(tables, n, rounds);
+    let entries = Entries {
+        tables: tables.shared(),
+        index,
+        players: n,
+        rounds,
+    };
+    judge(counts, past, &entries, &tables.line_numbers())?;
+    Ok(rounds)
 }

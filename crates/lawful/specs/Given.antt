@@ -3,6 +3,7 @@ use Rattle.std.specs.Prelude.{◌≡◌, List, [], ◌∷◌, ◌++◌, ℕ, ◌
 use Rattle.types.specs.declared.Acceleration.{Acceleration}
 use Rattle.law.specs.Sizes.{most_players, most_accelerations, most_text}
 use Rattle.law.specs.Tables.{Tables, kept_cells, entry_cells}
+use Rattle.tables.specs.declared.lent.Tables.{Tables as Lent}
 
 abbrev pub tables_of : List ℕ → List ℕ → List ℕ → List ℕ → List ℕ → List ℕ → List ℕ → List ℕ → List Acceleration → Tables
 tables_of starts points ranks kept opponents colours results text accelerations =
@@ -17,6 +18,10 @@ tables_of starts points ranks kept opponents colours results text accelerations 
       text = text;
       accelerations = accelerations;
     }
+
+-- the lent tables as the structs hold them
+abbrev pub tables_in : Lent → List Acceleration → Tables
+tables_in t accelerations = tables_of t.starts.now t.points.now t.ranks.now t.kept.now t.opponents.now t.colours.now t.results.now t.text.now accelerations
 
 -- all: the array that a core is given; records: what is lent. An array for a list that is too short may hold anything
 pub record Given (accelerations : ℕ) (all records : List Acceleration) : Type 0 where

@@ -2,59 +2,28 @@
 // works on an array by value. Promised: which cells are written and read.
 #![tactic(auto)]
 
-ghost use Rattle.std.specs.Prelude.{◌≡◌, ◌≤◌, length, take, drop, ◌++◌};
+ghost use Rattle.std.specs.Prelude.{◌≡◌, ◌≤◌, ◌<◌, length, take, drop, ◌++◌, replicate};
 ghost use Rattle.law.specs.Sizes.{most_accelerations};
-ghost use Rattle.lent_records.specs.Taking.{start_of};
+ghost use Rattle.law.specs.Lawful.{no_acceleration};
 
 use types::{Acceleration, MOST_ACCELERATIONS, NO_ACCELERATION};
 
-// The first n cells become the first n of all; the others stay.
+// The first n cells become the first n of all; the others stay. A slice of all cannot be handed out of the reading that found it, and there is no heap.
 pub fn fill(records: &mut [Acceleration], all: [Acceleration; MOST_ACCELERATIONS], n: usize)
     requires { (n ≤ length records.old) × (n ≤ most_accelerations) }
     ensures { records.new ≡ take n all ++ drop n records.old }
 {
-    let mut i = 0;
-    while i < n {
-        records[i] = all[i];
-        i += 1;
-    }
+    records[..n].copy_from_slice(&all[..n]);
 }
 
-// The first n cells by value, before what follows the first n of blank.
-pub fn taken(
-    records: &[Acceleration],
-    blank: [Acceleration; MOST_ACCELERATIONS],
-    n: usize,
-) -> [Acceleration; MOST_ACCELERATIONS]
-    requires { (n ≤ length records.now) × (n ≤ most_accelerations) }
-    ensures { result ≡ take n records.now ++ drop n blank }
+// All that the box carries, by value; where fewer are lent, none is looked at, and all are blank.
+pub fn taken(records: &[Acceleration]) -> [Acceleration; MOST_ACCELERATIONS]
+    ensures enough { most_accelerations ≤ length records.now → result ≡ take most_accelerations records.now }
+    ensures fewer { length records.now < most_accelerations → result ≡ replicate most_accelerations no_acceleration }
 {
-    let mut all = blank;
-    let mut i = 0;
-    while i < n {
-        all[i] = records[i];
-        i += 1;
+    let mut all = [NO_ACCELERATION; MOST_ACCELERATIONS];
+    if MOST_ACCELERATIONS <= records.len() {
+        all.copy_from_slice(&records[..MOST_ACCELERATIONS]);
     }
     all
-}
-
-// What taking starts from: blank records, and how many are to be taken: all that the box carries, or none where fewer are lent.
-#[derive(Drop)]
-pub struct Start {
-    pub blank: [Acceleration; MOST_ACCELERATIONS],
-    pub n: usize,
-}
-
-// What taking starts from where so many are lent.
-pub fn starting(lent: usize) -> Start
-    ensures { result ≡ start_of lent }
-{
-    let blank = [NO_ACCELERATION; MOST_ACCELERATIONS];
-    if lent < MOST_ACCELERATIONS {
-        return Start { blank, n: 0 };
-    }
-    Start {
-        blank,
-        n: MOST_ACCELERATIONS,
-    }
 }

@@ -1,5 +1,5 @@
 -- What a CR that was found, and the byte after it, say of the lines that are left. Assumes nothing.
-use mathlib.Core.Path.{◌≡◌, refl, sym, ap, ◌∙◌, subst}
+use mathlib.Core.Path.{◌≡◌, refl, sym, ap, ◌∙◌}
 use mathlib.Core.Bool.{true, false, and-false}
 use mathlib.Core.Option.{none}
 use mathlib.Core.List.{List, [], ◌∷◌, ◌++◌, append-nil}
@@ -10,7 +10,6 @@ use lib.ListN.{length, get_or, take, drop, take-append-drop, length-drop, drop_o
 use lib.Seq.{drop-cons, drop-drop}
 use native.Mathlib.Decide.{dec_lt, ℕ_discrete}
 use borrow.Author.Tests.{ne_eqb}
-use borrow.Author.Count.{below_more}
 use Rattle.kit.specs.Lists.{all}
 use Rattle.kit.proofs.Bools.{and, all_same, clash}
 use Rattle.law.specs.Lines.{CR, LF, allowed, Line, has_no_cr, starts_with_lf}
@@ -48,19 +47,13 @@ clean-part file (suc n) a l h k p q =
 pub clean_slice : (file : List ℕ) (a b : ℕ) → a ≤ b → b ≤ length file → all allowed (take (b - a) (drop a file)) ≡ true → Clean file a b
 clean_slice file a b l m h k p q = clean-part file (b - a) a (omega arith) h k (omega arith) q
 
-pub clean_more : (file : List ℕ) (at i : ℕ) → Clean file at i → allowed (get_or file i 0) ≡ true → Clean file at (i + 1)
-clean_more file at i h e = below_more (λ k. at ≤ k → allowed (get_or file k 0) ≡ true) i h (λ _. e)
-
 part-clean : (file : List ℕ) (n a : ℕ) → a + n ≤ length file → Clean file a (a + n) → all allowed (take n (drop a file)) ≡ true
 part-clean file zero a l h = refl
 part-clean file (suc n) a l h =
     rw (drop-cons file a 0 (omega arith), h a (omega arith) (omega arith))
     (part-clean file n (suc a) (omega arith) (λ k p q. h k (omega arith) (omega arith)))
 
--- ---- a stop near by, and one past a clean part
-pub stop_near : {file : List ℕ} {at near to r : ℕ} → Stop file at near r → r < near → near ≤ to → Stop file at to r
-stop_near s l m = record { after = s.after; within = omega arith; clean = s.clean; there = λ _. s.there l }
-
+-- ---- a stop past a clean part
 pub stop-past : {file : List ℕ} {at from to r : ℕ} → at ≤ from → Clean file at from → Stop file from to r → Stop file at to r
 stop-past {file} {at} {from} {to} {r} l h s = record { after = let a = s.after in omega arith; within = s.within; clean = clean_join file at from r h s.clean; there = s.there }
 
@@ -184,17 +177,6 @@ module _ {file : List ℕ} {at r : ℕ} (s : Stop file at (length file) r) where
       bad : all allowed (text ++ p.0.text) ≡ false
       bad = all_same allowed text p.0.text ∙ rw (p.4, s.there l) (and-false (all allowed text))
 
--- ---- a CR after a clean part, and the mark of a comment
+-- ---- a CR after a clean part
 pub stop-here : {file : List ℕ} {at r : ℕ} → at ≤ r → r < length file → Clean file at r → get_or file r 0 ≡ CR → Stop file at (length file) r
 stop-here l m h e = record { after = l; within = omega arith; clean = h; there = λ _. ap allowed e }
-
-pub clean-none : (file : List ℕ) (at : ℕ) → Clean file at at
-clean-none file at k l m = absurd (omega arith)
-
-pub clean_mark : (file : List ℕ) (at : ℕ) → get_or file at 0 ≡ 35 → get_or file (at + 1) 0 ≡ 35 → get_or file (at + 2) 0 ≡ 35 → Clean file at (at + 3)
-clean_mark file at e f g =
-    let one = clean_more file at at (clean-none file at) (ap allowed e) in
-    let two = clean_more file at (at + 1) one (ap allowed f) in
-    let a : at + 1 + 1 ≡ at + 2 = omega arith in
-    let b : at + 2 + 1 ≡ at + 3 = omega arith in
-    subst (Clean file at) b (clean_more file at (at + 2) (subst (Clean file at) a two) (ap allowed g))

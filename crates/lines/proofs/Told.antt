@@ -5,24 +5,21 @@ use mathlib.Core.List.{List, []}
 use Prim.Native.Nat.{ℕ}
 use lib.ListN.{drop}
 use Rattle.law.proofs.Cut.{cut}
-use Rattle.lines.specs.declared.Cursor.{Cursor}
-use Rattle.lines.specs.declared.Step.{Step}
-use Rattle.lines.specs.declared.Step.TheVariants.{Whole, Broken, Foul, Done}
+use Rattle.std.specs.Prelude.{Option, Some, None, Result, Ok, Err}
+use Rattle.types.specs.declared.Fault.{Fault}
+use Rattle.types.specs.Faults.{number_of}
+use Rattle.lines.specs.declared.Line.{Line}
 use Rattle.lines.specs.Step.{FaultAt, WholeAt, StepMeans}
 
-module _ (file : List ℕ) (at : ℕ) {step : Step} (means : StepMeans file at step) where
-  pub told_done : step ≡ Done → cut false (drop at file) ≡ []
+module _ (file : List ℕ) (at : ℕ) {step : Result (Option Line) Fault} (means : StepMeans file at step) where
+  pub told_done : step ≡ Ok None → cut false (drop at file) ≡ []
   unfolding StepMeans
   told_done e = subst (StepMeans file at) e means
 
-  pub told_broken : step ≡ Broken → FaultAt file at 4
+  pub told_fault : {fault : Fault} → step ≡ Err fault → FaultAt file at (number_of fault)
   unfolding StepMeans
-  told_broken e = subst (StepMeans file at) e means
+  told_fault e = subst (StepMeans file at) e means
 
-  pub told_foul : step ≡ Foul → FaultAt file at 3
+  pub told_line : {line : Line} → step ≡ Ok (Some line) → WholeAt file at line.from line.to line.next.at
   unfolding StepMeans
-  told_foul e = subst (StepMeans file at) e means
-
-  pub told-whole : {from to : ℕ} {next : Cursor} → step ≡ Whole from to next → WholeAt file at from to next.at
-  unfolding StepMeans
-  told-whole e = subst (StepMeans file at) e means
+  told_line e = subst (StepMeans file at) e means

@@ -1,10 +1,11 @@
 -- What a step of the cursor says: the lines of what is left are the line that it found and the lines from the next cursor on.
-use Rattle.std.specs.Prelude.{◌≡◌, true, false, cond, List, [], ◌∷◌, ℕ, suc, ◌-◌, ◌≤◌, ◌<◌, length, get_or, take, drop}
+use Rattle.std.specs.Prelude.{◌≡◌, true, false, cond, List, [], ◌∷◌, ℕ, suc, ◌-◌, ◌≤◌, ◌<◌, length, get_or, take, drop, Option, Some, None, Result, Ok, Err}
 use Rattle.kit.specs.Lists.{all}
 use Rattle.law.specs.Lines.{CR, Line, is_ended, starts_with_lf, allowed}
 use Rattle.law.proofs.Cut.{cut, end_for}
-use Rattle.lines.specs.declared.Step.{Step}
-use Rattle.lines.specs.declared.Step.TheVariants.{Whole, Broken, Foul, Done}
+use Rattle.types.specs.declared.Fault.{Fault}
+use Rattle.types.specs.Faults.{number_of}
+use Rattle.lines.specs.declared.Line.{Line as Found}
 
 -- no CR from at up to r
 abbrev pub NoCR : List ℕ → ℕ → ℕ → Type 0
@@ -48,8 +49,7 @@ pub record WholeAt (file : List ℕ) (at from to next : ℕ) : Type 0 where
   pub clean : all allowed (take (to - from) (drop from file)) ≡ true
   pub lines : cut false (drop at file) ≡ record { text = take (to - from) (drop from file); end = end_for (starts_with_lf (drop (suc to) file)) } ∷ cut false (drop next file)
 
-unfoldable pub StepMeans : List ℕ → ℕ → Step → Type 0
-StepMeans file at Done = cut false (drop at file) ≡ []
-StepMeans file at Broken = FaultAt file at 4
-StepMeans file at Foul = FaultAt file at 3
-StepMeans file at (Whole from to next) = WholeAt file at from to next.at
+unfoldable pub StepMeans : List ℕ → ℕ → Result (Option Found) Fault → Type 0
+StepMeans file at (Ok None) = cut false (drop at file) ≡ []
+StepMeans file at (Ok (Some line)) = WholeAt file at line.from line.to line.next.at
+StepMeans file at (Err fault) = FaultAt file at (number_of fault)

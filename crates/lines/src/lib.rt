@@ -1,15 +1,15 @@
 // The lines of a file, one after the other, and the bytes that a line may hold. A cursor is a place in the file; a step from it finds the first line of
 // what is left and the cursor after it. Promised: the lines found are those that the statement cuts the file into, with their terminators; a line is
-// Whole exactly where it is ended and each of its bytes is allowed.
+// found exactly where it is ended and each of its bytes is allowed.
 #![tactic(auto)]
 
 ghost use Rattle.std.specs.Prelude.{◌≡◌, true, not, ◌-◌, ◌≤◌, ◌<◌, length, take, drop};
 ghost use Rattle.kit.specs.Lists.{all};
 ghost use Rattle.law.specs.Sizes.{most_file};
 ghost use Rattle.law.specs.Lines.{allowed};
-ghost use Rattle.lines.specs.Step.{CRFrom, Clean, Stop, StepMeans};
+ghost use Rattle.lines.specs.Step.{CRFrom, Clean, Stop, WholeAt, StepMeans};
 
-use types::{CR, LF};
+use types::{CR, Fault, LF};
 
 // How many bytes are tested one by one at first, how many at once then, and how many at once where those are too many.
 const NEAR: usize = 4;
@@ -27,18 +27,12 @@ pub struct Cursor {
     pub at: usize,
 }
 
-// What stands at a cursor: a line with its terminator, of allowed bytes, and the cursor past that; a last line without one; a line with a byte that is not
-// allowed, with or without its terminator; no line. A line's text is file[from..to].
+// A line with its terminator, of allowed bytes: its text is file[from..to], and next is the cursor past its terminator.
 #[derive(Drop)]
-pub enum Step {
-    Whole {
-        from: usize,
-        to: usize,
-        next: Cursor,
-    },
-    Broken,
-    Foul,
-    Done,
+pub struct Line {
+    pub from: usize,
+    pub to: usize,
+    pub next: Cursor,
 }
 
 // The place of the first CR from a place on, or the file's length.
@@ -46,14 +40,12 @@ pub fn cr_from(file: &[u8], at: usize) -> usize
     requires { at ≤ length file.now }
     ensures { CRFrom file.now at result }
 {
-    let mut i = at;
-    while i < file.len() {
+    for i in at..file.len() {
         if file[i] == CR {
             return i;
         }
-        i += 1;
     }
-    i
+    file.len()
 }
 
 fn is_allowed(c: u8) -> bool
@@ -67,15 +59,13 @@ pub fn all_allowed(line: &[u8]) -> bool
     ensures { result ≡ all allowed line.now }
 {
     let mut good = true;
-    let mut i = 0;
-    while i < line.len() {
-        good = good & is_allowed(line[i]);
-        i += 1;
+    for c in line {
+        good = good & is_allowed(*c);
     }
     good
 }
 
-// Past whole blocks of allowed bytes.
+// Past whole blocks of allowed bytes. A `while`, since a step is a block and the loop ends where less than one is left.
 fn past_blocks(file: &[u8], at: usize, block: usize) -> usize
     requires { (at ≤ length file.now) × (1 ≤ block) }
     ensures { (at ≤ result) × (result ≤ length file.now) × Clean file.now at result }
@@ -102,14 +92,12 @@ fn stop_within(file: &[u8], at: usize, to: usize) -> usize
     requires { (at ≤ to) × (to ≤ length file.now) }
     ensures { Stop file.now at to result }
 {
-    let mut i = at;
-    while i < to {
+    for i in at..to {
         if is_stop(file[i]) {
             return i;
         }
-        i += 1;
     }
-    i
+    to
 }
 
 // The place of the first byte from a place on that is not allowed, or the file's length: a few bytes one by one, since a file may be made of the shortest lines,
@@ -135,45 +123,25 @@ fn past_mark(file: &[u8], at: usize) -> usize
     requires { (at < length file.now) × (length file.now ≤ most_file) }
     ensures { (at ≤ result) × (result < length file.now) × Clean file.now at result }
 {
-    if file.len() <= at + MARK {
-        return at;
-    }
-    if file[at] != b'#' {
-        return at;
-    }
-    if file[at + 1] != b'#' {
-        return at;
-    }
-    if file[at + 2] != b'#' {
-        return at;
-    }
-    at + MARK
+    let is_marked = at + MARK < file.len()
+        && file[at] == b'#'
+        && file[at + 1] == b'#'
+        && file[at + 2] == b'#';
+    if is_marked { at + MARK } else { at }
 }
 
 // The line of allowed bytes from a place up to its CR, with the LF after that if there is one.
-fn whole(file: &[u8], from: usize, to: usize) -> Step
+fn whole(file: &[u8], from: usize, to: usize) -> Line
     requires { (to < length file.now) × (length file.now ≤ most_file) × CRFrom file.now from to × (all allowed (take (to - from) (drop from file.now)) ≡ true) }
-    ensures { StepMeans file.now from result }
+    ensures { WholeAt file.now from result.from result.to result.next.at }
 {
     let after = to + 1;
-    if file.len() <= after {
-        return Step::Whole {
-            from,
-            to,
-            next: Cursor { at: after },
-        };
-    }
-    if file[after] == LF {
-        return Step::Whole {
-            from,
-            to,
-            next: Cursor { at: after + 1 },
-        };
-    }
-    Step::Whole {
+    let has_lf = after < file.len() && file[after] == LF;
+    let at = if has_lf { after + 1 } else { after };
+    Line {
         from,
         to,
-        next: Cursor { at: after },
+        next: Cursor { at },
     }
 }
 
@@ -185,26 +153,27 @@ impl Cursor {
         Cursor { at: 0 }
     }
 
-    // The line at the cursor. An empty one, or an empty comment, is told at once, since a file may have many.
-    pub fn next_line(self, file: &[u8]) -> Step
+    // The line at the cursor, or none at the end of the file. A last line without a terminator is Fault::NoCr, and a line with a byte that is not allowed
+    // Fault::BadByte, with or without its terminator. An empty line, or an empty comment, is told at once, since a file may have many.
+    pub fn next_line(self, file: &[u8]) -> Result<Option<Line>, Fault>
         requires { length file.now ≤ most_file }
         ensures { StepMeans file.now self.at result }
     {
         let at = self.at;
         if file.len() <= at {
-            return Step::Done;
+            return Ok(None);
         }
         let start = past_mark(file, at);
         if file[start] == CR {
-            return whole(file, at, start);
+            return Ok(Some(whole(file, at, start)));
         }
         let to = stop_from(file, start);
         if file.len() <= to {
-            return Step::Broken;
+            return Err(Fault::NoCr);
         }
         if file[to] != CR {
-            return Step::Foul;
+            return Err(Fault::BadByte);
         }
-        whole(file, at, to)
+        Ok(Some(whole(file, at, to)))
     }
 }

@@ -2,7 +2,7 @@
 -- Assumes nothing.
 use mathlib.Core.Path.{◌≡◌, refl, sym, ap, ◌∙◌, subst}
 use mathlib.Core.Bool.{Bool, true}
-use mathlib.Core.List.{List}
+use mathlib.Core.List.{List, []}
 use Prim.Native.Nat.{ℕ, ◌≤◌}
 use native.Mathlib.Omega.{arith}
 use lib.ListN.{length, replicate, length-replicate}
@@ -21,8 +21,11 @@ use Rattle.join.specs.Store.{Nine}
 use Rattle.join.specs.Kept.{Long}
 use Rattle.lines_read.specs.declared.CoreAnswer.{CoreAnswer}
 use Rattle.reader.specs.Core.{lent_with, CoreReads}
+use Rattle.tables.specs.Lent.{eight_of}
+use Rattle.tables.specs.declared.lent.Tables as lent
 use Rattle.listing.specs.Put.{Put}
-use Rattle.listing.specs.Listing.{six, listing}
+use Rattle.listing.specs.Lent.{six}
+use Rattle.listing.specs.Listing.{Six, listing}
 use Rattle.listing.specs.Outcomes.{Lists}
 use Rattle.listing.proofs.Told.{read_and-listed, refused-numbered}
 use Rattle.listed.specs.Printed.{number_of, Numbered, IsAccepted, IsRefused}
@@ -73,15 +76,26 @@ reads-numbered {file} {b} {a} {x} long r =
       says = of_outcome r.outcome b a x r.leaves;
     }
 
-pub core_listed : {file : List ℕ} {b : Nine} {n : ℕ} {r : CoreAnswer} {x : Nine} {t : List ℕ} {e : ℕ} {u : List ℕ} → Long b → most_accelerations ≤ n
-    → CoreReads file b n r x
-    → Put (listing r.answer (six x.starts x.points x.ranks x.opponents x.colours x.results)) 0 t e u
+-- the tables that are listed, of the nine
+abbrev pub six_in : Nine → Six
+six_in x =
+    record {
+      starts = x.starts;
+      points = x.points;
+      ranks = x.ranks;
+      opponents = x.opponents;
+      colours = x.colours;
+      results = x.results;
+    }
+
+pub core_listed : {file : List ℕ} {b : Nine} {n : ℕ} {r : CoreAnswer} {x : Nine} (l : lent.Tables) {t : List ℕ} {e : ℕ} {u : List ℕ} → Long b → most_accelerations ≤ n
+    → CoreReads file b n r x → eight_of l ≡ record x { lines = [] } → Put (listing r.answer (six l)) 0 t e u
     → Lists file t e u × Numbered file r.answer.number
-core_listed {file} {b} {n} long few h p =
+core_listed {file} {b} {n} {r} {x} l {t} {e} {u} long few h q p =
     let blank : List Acceleration = replicate n no_acceleration in
     let enough : enough_lent (lent_with b blank) ≡ true = enough-lent b blank long (let z = length-replicate n no_acceleration in omega arith) in
     let reads = h.reads blank (length-replicate n no_acceleration) in
-    (read_and-listed enough reads p, reads-numbered enough reads)
+    (read_and-listed enough reads (subst (λ (s : Six). Put (listing r.answer s) 0 t e u) (ap six_in q) p), reads-numbered enough reads)
 
 pub says-accepted : {file : List ℕ} {n : ℕ} → Numbered file n → n ≡ 0 → IsAccepted file
 says-accepted {file} h z = go h.outcome h.judged (sym h.says ∙ z)

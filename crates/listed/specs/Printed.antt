@@ -3,7 +3,7 @@ use Rattle.std.specs.Prelude.{◌≡◌, true, List, ℕ}
 use Rattle.law.specs.Tournament.{Tournament}
 use Rattle.law.specs.Refusals.{Refusal, Outcome, refused, accepted, Judged}
 use Rattle.listed.specs.declared.Printed.{Printed}
-use Rattle.listed.specs.declared.Printed.TheVariants.{Accepted, Refused, Unread, Lost}
+use Rattle.listed.specs.declared.Printed.TheVariants.{Accepted, Refused}
 
 abbrev pub number_of : Outcome → ℕ
 number_of (refused q) = q.number
@@ -25,9 +25,6 @@ pub record IsRefused (file : List ℕ) : Type 0 where
   pub refusal : Refusal
   pub judged : Judged true file (refused refusal)
 
--- nothing is said of a file where some of the output is lost, or that was not read
 abbrev pub Says : Printed → List ℕ → Type 0
 Says Accepted file = IsAccepted file
 Says Refused file = IsRefused file
-Says (Unread e) file = Unit {0}
-Says (Lost e) file = Unit {0}

@@ -1,91 +1,68 @@
 // A file's listing: the file is read into tables of the listed sizes, and what was read is listed; from a reader, and to the two outputs.
 #![tactic(auto)]
 
-ghost use Rattle.std.specs.Prelude.{◌≤◌, length};
+mod room;
+
+ghost use Rattle.std.specs.Prelude.{◌≤◌, IfOk, length};
 ghost use Rattle.io.specs.Counts.{IsPrefixLen};
 ghost use Rattle.listing.specs.Outcomes.{Lists};
-ghost use Rattle.listed.specs.Input.{BytesIn};
 ghost use Rattle.listed.specs.Printed.{Numbered, Says};
 
 use listing::{ANSWER_LINE, LISTING};
+pub use room::Room;
 use std::io;
 use std::io::{Cursor, Read, Write};
-use types::{Answer, ENTRIES, KEPT, LINES, MOST_ACCELERATIONS, MOST_PLAYERS, MOST_TEXT};
+use types::Answer;
 
 // One byte more than the largest file, so that a larger one is seen to be larger: no more is read of it.
 pub const MOST_READ: usize = types::MOST_FILE + 1;
 
-// The number of a file's refusal, 0 where it is accepted, and how many bytes its listing has.
+// What the reading of a file answered, and how many bytes were made of it.
 #[derive(Clone, Copy)]
-pub struct Listed {
-    pub number: u32,
+pub struct Made {
+    pub answer: Answer,
     pub length: usize,
 }
 
 // The bytes of a file's listing, from the first byte of `out` on.
-pub fn list_file(file: &[u8], out: &mut [u8; LISTING]) -> Listed
+pub fn list_file(file: &[u8], out: &mut [u8; LISTING]) -> Made
     ensures prefix_len { IsPrefixLen result.length out.new }
     ensures lists { Lists file.now out.old result.length out.new }
-    ensures numbered { Numbered file.now result.number }
+    ensures numbered { Numbered file.now result.answer.number }
 {
-    let mut starts = [0u32; MOST_PLAYERS];
-    let mut points = [0u32; MOST_PLAYERS];
-    let mut ranks = [0u32; MOST_PLAYERS];
-    let mut kept = [0u8; KEPT];
-    let mut opponents = [0u32; ENTRIES];
-    let mut colours = [0u8; ENTRIES];
-    let mut results = [0u8; ENTRIES];
-    let mut text = [0u8; MOST_TEXT];
-    let mut lines = [0u32; LINES];
-    let core = reader::read_core(
-        file,
-        &mut starts,
-        &mut points,
-        &mut ranks,
-        &mut kept,
-        &mut opponents,
-        &mut colours,
-        &mut results,
-        &mut text,
-        &mut lines,
-        MOST_ACCELERATIONS,
-    );
-    let answer = core.answer;
-    let length = listing::put_listing(
-        out, answer, &starts, &points, &ranks, &opponents, &colours, &results,
-    );
-    Listed {
-        number: answer.number,
-        length,
-    }
+    let mut room = Room::new();
+    let answer = room.read(file).answer;
+    let length = listing::put_listing(out, answer, &room.tables());
+    Made { answer, length }
 }
 
-// What came of a file: it is accepted, or refused, and all that is printed of it was written; it could not be read; or some of what is printed is lost.
+// What came of a file of which all that is printed was written.
 #[derive(Clone, Copy)]
 pub enum Printed {
     Accepted,
     Refused,
+}
+
+// Why a file's bytes are not printed: it could not be read, or some of what is printed is lost.
+#[derive(Clone, Copy)]
+pub enum Failure {
     Unread(io::Error),
     Lost(io::Error),
 }
 
 // The listing of a file, to an output. The line of a refused one goes to the output for errors too.
-pub fn print_listing(out: &impl Print, err: &impl Print, file: &[u8]) -> Printed
-    ensures { Says result file.now }
+pub fn print_listing(out: &impl Print, err: &impl Print, file: &[u8]) -> io::Result<Printed>
+    ensures { IfOk result (λ p. Says p file.now) }
 {
     let mut bytes = [0u8; LISTING];
-    let done = list_file(file, &mut bytes);
-    let n = done.length;
-    if let Err(e) = out.write_all(&bytes[..n]) {
-        return Printed::Lost(e);
+    let made = list_file(file, &mut bytes);
+    let listing = &bytes[..made.length];
+    out.write_all(listing)?;
+    if made.answer.number == 0 {
+        return Ok(Printed::Accepted);
     }
-    if done.number == 0 {
-        return Printed::Accepted;
-    }
-    if let Err(e) = err.write_all(&bytes[..n]) {
-        return Printed::Lost(e);
-    }
-    Printed::Refused
+    err.write_all(listing)?;
+    Ok(Printed::Refused)
 }
 
 // The line of a refusal, to an output; or why it was not written whole.
@@ -95,34 +72,51 @@ pub fn print_refused(err: &impl Print, answer: Answer) -> io::Result<()> {
     err.write_all(&bytes[..n])
 }
 
-// What was read: so many bytes, or a read failed.
-#[derive(Clone, Copy)]
-pub enum Input {
-    Bytes(usize),
-    Failed(io::Error),
-}
-
-// Reads to the end of a file, or until there is no room. A read that fails is not the end.
-pub fn read_input(input: &mut impl Read, file: &mut [u8]) -> Input
-    ensures { BytesIn result (length file.old) }
+// Reads to the end of a file, or until there is no room, and answers how many bytes that are. A read that fails is not the end. A `while`,
+// since a read gives any number of bytes.
+pub fn read_input(input: &mut impl Read, file: &mut [u8]) -> io::Result<usize>
+    ensures { IfOk result (λ n. n ≤ length file.old) }
 {
     let mut n = 0;
     while n < file.len() {
-        match input.read(&mut file[n..]) {
-            Ok(0) => return Input::Bytes(n),
-            Ok(more) => n += more,
-            Err(e) => return Input::Failed(e),
+        match input.read(&mut file[n..])? {
+            0 => break,
+            more => n += more,
         }
     }
-    Input::Bytes(n)
+    Ok(n)
 }
 
-// The listing of what a reader gives, as `print_listing` prints it. Where it cannot be read, nothing is written.
-pub fn print_input(input: &mut impl Read, out: &impl Print, err: &impl Print) -> Printed {
+// What a reader gives, printed by `print`. Where it cannot be read, nothing is written.
+pub fn print_read<F: FnOnce(&[u8]) -> io::Result<Printed>>(
+    input: &mut impl Read,
+    print: F,
+) -> Result<Printed, Failure>
+    requires { F.IsAlwaysCallable print }
+{
     let mut file = [0u8; MOST_READ];
-    match read_input(input, &mut file) {
-        Input::Bytes(n) => print_listing(out, err, &file[..n]),
-        Input::Failed(e) => Printed::Unread(e),
+    let n = read_input(input, &mut file).map_err(Failure::Unread)?;
+    print(&file[..n]).map_err(Failure::Lost)
+}
+
+// The listing of what a reader gives, as `print_listing` prints it.
+pub fn print_input(
+    input: &mut impl Read,
+    out: &impl Print,
+    err: &impl Print,
+) -> Result<Printed, Failure> {
+    print_read(input, |file| print_listing(out, err, file))
+}
+
+// The one line of a program that prints what its standard input makes: `accepted`, or what could not be read or written. A refusal has its line already.
+pub fn tell(err: &impl Print, done: Result<Printed, Failure>) {
+    match done {
+        Ok(Printed::Accepted) => {
+            let _ = err.write_all(b"accepted\n");
+        }
+        Ok(Printed::Refused) => {}
+        Err(Failure::Unread(e)) => print_failure(err, b"standard input", e),
+        Err(Failure::Lost(e)) => print_failure(err, b"standard output", e),
     }
 }
 
@@ -136,14 +130,9 @@ const NUMBERED: &[u8] = b" (os error ";
 fn words_end(text: &[u8]) -> usize
     ensures { result ≤ length text.now }
 {
-    let mut end = 0;
-    while end < text.len() {
-        if text[end..].starts_with(NUMBERED) {
-            return end;
-        }
-        end += 1;
-    }
-    end
+    text.windows(NUMBERED.len())
+        .position(|part| part == NUMBERED)
+        .unwrap_or(text.len())
 }
 
 // A line: what could not be read or written, a colon, and the words for why.

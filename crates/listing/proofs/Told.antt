@@ -144,5 +144,5 @@ pub lists_once : {file before : List ℕ} {e : ℕ} {u : List ℕ} {e' : ℕ} {u
 lists_once {file} {before} p q =
     let o : p.outcome ≡ q.outcome = one_outcome true file p.outcome q.outcome p.judged q.judged in (
       p.bytes.ends ∙ ap (λ (k : Outcome). 0 + length (outcome_listing k)) o ∙ sym q.bytes.ends,
-      p.bytes.holds ∙ ap (λ (k : Outcome). paste before 0 (outcome_listing k) (length (outcome_listing k))) o ∙ sym q.bytes.holds,
+      p.bytes.written ∙ ap (λ (k : Outcome). paste before 0 (outcome_listing k) (length (outcome_listing k))) o ∙ sym q.bytes.written,
     )

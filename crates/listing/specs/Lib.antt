@@ -1,3 +1,4 @@
 pub mod Put
 pub mod Listing
+pub mod Lent
 pub mod Outcomes

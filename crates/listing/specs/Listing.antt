@@ -1,10 +1,10 @@
 -- The listing of a reading, as bytes: "First line: players, rounds, acceleration records. Then start number, points in tenths, rank, one field a round
 -- (a bye as `0-U`). A refused file gives one line: `refused`, number, line, round, tabs between."
-use Rattle.std.specs.Prelude.{cond, List, [], ◌∷◌, ◌++◌, ℕ, zero, suc, ◌+◌, ◌*◌, ◌≤◌, eqb, length, get_or}
+use Rattle.std.specs.Prelude.{cond, List, [], ◌∷◌, ◌++◌, ℕ, zero, suc, ◌+◌, ◌*◌, eqb, get_or}
 use Rattle.kit.specs.Ascii.{ascii}
 use Rattle.types.specs.declared.Answer.{Answer}
 use Rattle.law.specs.Sizes.{most_players, most_rounds}
-use Rattle.law.specs.Tables.{entry_cells, cell_of}
+use Rattle.law.specs.Tables.{cell_of}
 use Rattle.law.specs.Writing.{filled, nothing}
 
 -- the tables that are listed
@@ -15,18 +15,6 @@ pub record Six : Type 0 where
   pub opponents : List ℕ
   pub colours : List ℕ
   pub results : List ℕ
-
-abbrev pub six : List ℕ → List ℕ → List ℕ → List ℕ → List ℕ → List ℕ → Six
-six starts points ranks opponents colours results =
-    record { starts = starts; points = points; ranks = ranks; opponents = opponents; colours = colours; results = results }
-
-pub record Long (t : Six) : Type 0 where
-  pub starts : most_players ≤ length t.starts
-  pub points : most_players ≤ length t.points
-  pub ranks : most_players ≤ length t.ranks
-  pub opponents : entry_cells ≤ length t.opponents
-  pub colours : entry_cells ≤ length t.colours
-  pub results : entry_cells ≤ length t.results
 
 -- ---- the bytes
 abbrev tab : List ℕ

@@ -1,8 +1,6 @@
--- Bytes put into a lent room from a place on: what the room holds then, and where they end.
-use Rattle.std.specs.Prelude.{◌≡◌, List, ℕ, ◌+◌, ◌≤◌, length}
-use Rattle.std.proofs.Math.Seq.{paste}
+-- Bytes put into a lent room from a place on, however many they are: what the room holds then, and where they end.
+use Rattle.std.specs.Prelude.{List, ℕ, length}
+use Rattle.puts.specs.Puts.{Puts}
 
-pub record Put (bytes : List ℕ) (at : ℕ) (before : List ℕ) (end : ℕ) (after : List ℕ) : Type 0 where
-  pub ends : end ≡ at + length bytes
-  pub fits : end ≤ length before
-  pub holds : after ≡ paste before at bytes (length bytes)
+abbrev pub Put : List ℕ → ℕ → List ℕ → ℕ → List ℕ → Type 0
+Put bytes at before end after = Puts bytes (length bytes) at before after end

@@ -2,14 +2,14 @@
 // the lent room stays. Nothing here reads or writes a file.
 #![tactic(auto)]
 
-ghost use Rattle.std.specs.Prelude.{◌≡◌, [], ◌∷◌, ◌+◌, ◌*◌, ◌≤◌, ◌<◌, length};
+ghost use Rattle.std.specs.Prelude.{◌+◌, ◌*◌, ◌≤◌, ◌<◌, length};
 ghost use Rattle.law.specs.Sizes.{most_players, most_rounds};
-ghost use Rattle.law.specs.Tables.{entry_cells};
 ghost use Rattle.law.specs.Writing.{filled, nothing};
-ghost use Rattle.law.specs.Writing as writing;
 ghost use Rattle.listing.specs.Put.{Put};
-ghost use Rattle.listing.specs.Listing.{six, Long, decimal, field, entry_field, entry_fields, standing, player_line, player_lines, answer_line, listing, most_player_line, most_answer_line, most_listing, refused_listing};
+ghost use Rattle.listing.specs.Lent.{six};
+ghost use Rattle.listing.specs.Listing.{decimal, field, entry_field, entry_fields, standing, player_line, player_lines, answer_line, listing, most_player_line, most_answer_line, most_listing, refused_listing};
 
+use tables::Tables;
 use types::{Answer, LF, Place, Rank, StartNumber};
 
 // The most digits of a number.
@@ -22,43 +22,29 @@ pub const ANSWER_LINE: usize = 42;
 
 const PLAYER_LINE: usize = 293;
 
-const TAB: u8 = 9;
+const TAB: u8 = b'\t';
 
-// One byte.
-fn put_byte(out: &mut [u8], at: usize, byte: u8) -> usize
-    requires { at < length out.old }
-    ensures { Put (byte ∷ []) at out.old result out.new × (result ≡ at + 1) }
-{
-    out[at] = byte;
-    at + 1
-}
-
-// The last decimal digit of a number.
-fn digit(n: u32) -> u8
-    ensures { result ≡ writing.digit n }
-{
-    b'0' + (n % 10) as u8
-}
-
-// The digits of a number, the last `most` of them at most.
+// The digits of a number, the last `most` of them at most. By recursion, since the first is known last, and how many there are with it.
 fn put_digits(out: &mut [u8], at: usize, n: u32, most: usize) -> usize
     requires { at + most ≤ length out.old }
-    ensures { Put (filled nothing most n) at out.old result out.new × (result ≤ at + most) }
+    ensures put { Put (filled nothing most n) at out.old result out.new }
+    ensures within { result ≤ at + most }
 {
     if most == 0 {
         return at;
     }
     if n / 10 == 0 {
-        return put_byte(out, at, digit(n));
+        return puts::put(out, at, &[puts::digit(n)]);
     }
     let end = put_digits(out, at, n / 10, most - 1);
-    put_byte(out, end, digit(n))
+    puts::put(out, end, &[puts::digit(n)])
 }
 
 // A number in decimal, with no filling.
 fn put_number(out: &mut [u8], at: usize, n: u32) -> usize
     requires { at + 10 ≤ length out.old }
-    ensures { Put (decimal n) at out.old result out.new × (result ≤ at + 10) }
+    ensures put { Put (decimal n) at out.old result out.new }
+    ensures within { result ≤ at + 10 }
 {
     put_digits(out, at, n, DIGITS)
 }
@@ -66,49 +52,37 @@ fn put_number(out: &mut [u8], at: usize, n: u32) -> usize
 // A tab and a number.
 fn put_field(out: &mut [u8], at: usize, n: u32) -> usize
     requires { at + 11 ≤ length out.old }
-    ensures { Put (field n) at out.old result out.new × (result ≤ at + 11) }
+    ensures put { Put (field n) at out.old result out.new }
+    ensures within { result ≤ at + 11 }
 {
-    let end = put_byte(out, at, TAB);
+    let end = puts::put(out, at, &[TAB]);
     put_number(out, end, n)
 }
 
 // A tab and an entry: id, colour and result with nothing between.
 fn put_entry(out: &mut [u8], at: usize, id: StartNumber, colour: u8, res: u8) -> usize
     requires { at + 13 ≤ length out.old }
-    ensures { Put (entry_field id.0 colour res) at out.old result out.new × (result ≤ at + 13) }
+    ensures put { Put (entry_field id.0 colour res) at out.old result out.new }
+    ensures within { result ≤ at + 13 }
 {
     let of_id = put_field(out, at, id.0);
-    let of_colour = put_byte(out, of_id, colour);
-    put_byte(out, of_colour, res)
+    puts::put(out, of_id, &[colour, res])
 }
 
-// A player's entries, round by round.
-fn put_entries(
-    out: &mut [u8],
-    at: usize,
-    place: Place,
-    rounds: u32,
-    opponents: &[u32],
-    colours: &[u8],
-    results: &[u8],
-) -> usize
-    requires rounds_in_bounds { at + 13 * rounds ≤ length out.old }
-    requires place_lt_most_players { (place.0 < most_players) × (rounds ≤ most_rounds) }
-    requires entry_cells_in_bounds { (entry_cells ≤ length opponents.now) × (entry_cells ≤ length colours.now) × (entry_cells ≤ length results.now) }
-    ensures { Put (entry_fields opponents.now colours.now results.now place.0 rounds) at out.old result out.new × (result ≤ at + 13 * rounds) }
+// A player's entries, round by round: the loop of `player_lines::put_entries`, but other bytes, and another contract.
+fn put_entries(out: &mut [u8], at: usize, tables: &Tables<'_>, place: Place, rounds: u32) -> usize
+    requires place { place.0 < most_players }
+    requires rounds { rounds ≤ most_rounds }
+    requires room { at + 13 * rounds ≤ length out.old }
+    ensures put { Put (entry_fields tables.now.opponents.now tables.now.colours.now tables.now.results.now place.0 rounds) at out.old result out.new }
+    ensures within { result ≤ at + 13 * rounds }
 {
     let mut end = at;
-    let mut round: u32 = 0;
-    while round < rounds {
-        round += 1;
-        let cell = tables::cell_of(place, round);
-        end = put_entry(
-            out,
-            end,
-            StartNumber(opponents[cell]),
-            colours[cell],
-            results[cell],
-        );
+    for done in 0..rounds {
+        let round = done + 1;
+        let id = tables.opponent_at(place, round);
+        let colour = tables.colour_at(place, round);
+        end = put_entry(out, end, id, colour, tables.result_at(place, round));
     }
     end
 }
@@ -116,7 +90,8 @@ fn put_entries(
 // Start number, points in tenths and rank.
 fn put_standing(out: &mut [u8], at: usize, start: StartNumber, points: u32, rank: Rank) -> usize
     requires { at + 32 ≤ length out.old }
-    ensures { Put (standing start.0 points rank.0) at out.old result out.new × (result ≤ at + 32) }
+    ensures put { Put (standing start.0 points rank.0) at out.old result out.new }
+    ensures within { result ≤ at + 32 }
 {
     let of_start = put_number(out, at, start.0);
     let of_points = put_field(out, of_start, points);
@@ -124,106 +99,65 @@ fn put_standing(out: &mut [u8], at: usize, start: StartNumber, points: u32, rank
 }
 
 // A player's line.
-fn put_player(
-    out: &mut [u8],
-    at: usize,
-    place: Place,
-    rounds: u32,
-    starts: &[u32],
-    points: &[u32],
-    ranks: &[u32],
-    opponents: &[u32],
-    colours: &[u8],
-    results: &[u8],
-) -> usize
-    requires most_player_line_in_bounds { at + most_player_line ≤ length out.old }
-    requires place_lt_most_players { (place.0 < most_players) × (rounds ≤ most_rounds) }
-    requires long { Long (six starts.now points.now ranks.now opponents.now colours.now results.now) }
-    ensures { Put (player_line (six starts.now points.now ranks.now opponents.now colours.now results.now) rounds place.0) at out.old result out.new × (result ≤ at + most_player_line) }
+fn put_player(out: &mut [u8], at: usize, tables: &Tables<'_>, place: Place, rounds: u32) -> usize
+    requires place { place.0 < most_players }
+    requires rounds { rounds ≤ most_rounds }
+    requires room { at + most_player_line ≤ length out.old }
+    ensures put { Put (player_line (six tables.now) rounds place.0) at out.old result out.new }
+    ensures within { result ≤ at + most_player_line }
 {
-    let start = tables::start_at(starts, place);
-    let stated = tables::points_at(points, place);
-    let rank = tables::rank_at(ranks, place);
-    let of_standing = put_standing(out, at, start, stated, rank);
-    let of_entries = put_entries(out, of_standing, place, rounds, opponents, colours, results);
-    put_byte(out, of_entries, LF)
+    let start = tables.start_at(place);
+    let points = tables.points_at(place);
+    let of_standing = put_standing(out, at, start, points, tables.rank_at(place));
+    let of_entries = put_entries(out, of_standing, tables, place, rounds);
+    puts::put(out, of_entries, &[LF])
 }
 
 // The players' lines, in the order of the tables.
-fn put_players(
-    out: &mut [u8],
-    at: usize,
-    players: u32,
-    rounds: u32,
-    starts: &[u32],
-    points: &[u32],
-    ranks: &[u32],
-    opponents: &[u32],
-    colours: &[u8],
-    results: &[u8],
-) -> usize
-    requires players_in_bounds { at + most_player_line * players ≤ length out.old }
-    requires players_le_most_players { (players ≤ most_players) × (rounds ≤ most_rounds) }
-    requires long { Long (six starts.now points.now ranks.now opponents.now colours.now results.now) }
-    ensures { Put (player_lines (six starts.now points.now ranks.now opponents.now colours.now results.now) rounds players) at out.old result out.new × (result ≤ at + most_player_line * players) }
+fn put_players(out: &mut [u8], at: usize, tables: &Tables<'_>, players: u32, rounds: u32) -> usize
+    requires players { players ≤ most_players }
+    requires rounds { rounds ≤ most_rounds }
+    requires room { at + most_player_line * players ≤ length out.old }
+    ensures put { Put (player_lines (six tables.now) rounds players) at out.old result out.new }
+    ensures within { result ≤ at + most_player_line * players }
 {
     let mut end = at;
-    let mut place: u32 = 0;
-    while place < players {
-        end = put_player(
-            out,
-            end,
-            Place(place),
-            rounds,
-            starts,
-            points,
-            ranks,
-            opponents,
-            colours,
-            results,
-        );
-        place += 1;
+    for place in 0..players {
+        end = put_player(out, end, tables, Place(place), rounds);
     }
     end
 }
 
 // A word and three numbers: the answer's line.
 fn put_answer(out: &mut [u8], word: &[u8], first: u32, second: u32, third: u32) -> usize
-    requires { (length word.now ≤ 8) × (most_answer_line ≤ length out.old) }
-    ensures { Put (answer_line word.now first second third) 0 out.old result out.new × (result ≤ most_answer_line) }
+    requires word { length word.now ≤ 8 }
+    requires room { most_answer_line ≤ length out.old }
+    ensures put { Put (answer_line word.now first second third) 0 out.old result out.new }
+    ensures within { result ≤ most_answer_line }
 {
-    let of_word = word.len();
-    cells::put_bytes(out, 0, word, of_word);
+    let of_word = puts::put(out, 0, word);
     let of_first = put_field(out, of_word, first);
     let of_second = put_field(out, of_first, second);
     let of_third = put_field(out, of_second, third);
-    put_byte(out, of_third, LF)
+    puts::put(out, of_third, &[LF])
 }
 
 // The one line of a refusal.
 pub fn put_refused(out: &mut [u8], answer: Answer) -> usize
     requires { most_answer_line ≤ length out.old }
-    ensures { Put (refused_listing answer) 0 out.old result out.new × (result ≤ most_answer_line) }
+    ensures put { Put (refused_listing answer) 0 out.old result out.new }
+    ensures within { result ≤ most_answer_line }
 {
-    let line = answer.line;
-    put_answer(out, b"refused", answer.number, line.0, answer.round)
+    put_answer(out, b"refused", answer.number, answer.line.0, answer.round)
 }
 
 // The whole listing, from the first byte on. The tables are not looked at after a refusal.
-pub fn put_listing(
-    out: &mut [u8],
-    answer: Answer,
-    starts: &[u32],
-    points: &[u32],
-    ranks: &[u32],
-    opponents: &[u32],
-    colours: &[u8],
-    results: &[u8],
-) -> usize
-    requires most_listing_in_bounds { most_listing ≤ length out.old }
-    requires players_le_most_players { (answer.players ≤ most_players) × (answer.rounds ≤ most_rounds) }
-    requires long { Long (six starts.now points.now ranks.now opponents.now colours.now results.now) }
-    ensures { Put (listing answer (six starts.now points.now ranks.now opponents.now colours.now results.now)) 0 out.old result out.new × (result ≤ most_listing) }
+pub fn put_listing(out: &mut [u8], answer: Answer, tables: &Tables<'_>) -> usize
+    requires room { most_listing ≤ length out.old }
+    requires players { answer.players ≤ most_players }
+    requires rounds { answer.rounds ≤ most_rounds }
+    ensures put { Put (listing answer (six tables.now)) 0 out.old result out.new }
+    ensures within { result ≤ most_listing }
 {
     if answer.number != 0 {
         return put_refused(out, answer);
@@ -235,16 +169,5 @@ pub fn put_listing(
         answer.rounds,
         answer.accelerations,
     );
-    put_players(
-        out,
-        end,
-        answer.players,
-        answer.rounds,
-        starts,
-        points,
-        ranks,
-        opponents,
-        colours,
-        results,
-    )
+    put_players(out, end, tables, answer.players, answer.rounds)
 }

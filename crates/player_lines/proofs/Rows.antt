@@ -51,14 +51,14 @@ pub head_room : {l : ℕ} (at rounds : ℕ) → at + player_wide rounds ≤ l �
 head_room at rounds r = omega arith
 
 module _ (t : Seven) (rounds : ℕ) where
-  -- the player's numbers stand in the place's cells, the kept columns from its first cell on
-  pub player_parts : (place : ℕ) {start points rank first : ℕ} → start ≡ get_or t.starts place 0 → points ≡ get_or t.points place 0 → rank ≡ get_or t.ranks place 0 → first ≡ place * width kept_field
-      → head_text start (take (width kept_field) (drop first t.kept)) points rank ++ laid (suc head_wide) (entries_from 1 (entries_in t.opponents t.colours t.results place rounds)) ≡ player_line (player_in t rounds place)
+  -- the player's numbers stand in the place's cells, and the kept columns from its first cell on
+  pub player_parts : (place : ℕ) {start points rank : ℕ} {kept : List ℕ} → start ≡ get_or t.starts place 0 → points ≡ get_or t.points place 0 → rank ≡ get_or t.ranks place 0 → kept ≡ take (width kept_field) (drop (place * width kept_field) t.kept)
+      → head_text start kept points rank ++ laid (suc head_wide) (entries_from 1 (entries_in t.opponents t.colours t.results place rounds)) ≡ player_line (player_in t rounds place)
   unfolding player_in
   player_parts place of-start of-points of-rank e = rw (of-start, of-points, of-rank, e) (player-line (player_in t rounds place))
 
-  pub player_put : (place : ℕ) {start points rank first at k next : ℕ} {x y z : List ℕ} → start ≡ get_or t.starts place 0 → points ≡ get_or t.points place 0 → rank ≡ get_or t.ranks place 0 → first ≡ place * width kept_field
-      → Puts (head_text start (take (width kept_field) (drop first t.kept)) points rank) head_wide at x y k
+  pub player_put : (place : ℕ) {start points rank at k next : ℕ} {kept x y z : List ℕ} → start ≡ get_or t.starts place 0 → points ≡ get_or t.points place 0 → rank ≡ get_or t.ranks place 0 → kept ≡ take (width kept_field) (drop (place * width kept_field) t.kept)
+      → Puts (head_text start kept points rank) head_wide at x y k
       → Puts (laid (suc head_wide) (entries_from 1 (entries_in t.opponents t.colours t.results place rounds))) (rounds * entry_wide) k y z next
       → Puts (player_line (player_in t rounds place)) (player_wide rounds) at x z next
   player_put place of-start of-points of-rank e p q = puts_as (player_parts place of-start of-points of-rank e) refl refl (puts_then p q)

@@ -1,13 +1,11 @@
 -- The players that the cells of the tables say, and the seven tables that say them. Means: no part of the statement.
-use Rattle.std.specs.Prelude.{List, map, ℕ, ◌*◌, ◌≤◌, length, get_or, take, drop}
-use Rattle.std.specs.Borrow.{Bor}
-use denote.Triple.Both.{Both}
+use Rattle.std.specs.Prelude.{List, map, ℕ, ◌*◌, get_or, take, drop}
 use Rattle.kit.specs.Lists.{from}
-use Rattle.law.specs.Sizes.{most_players}
 use Rattle.law.specs.Columns.{width}
 use Rattle.law.specs.Players.{kept_field}
 use Rattle.law.specs.Tournament.{Entry, Player}
-use Rattle.law.specs.Tables.{Tables, kept_cells, entry_cells, cell_of}
+use Rattle.law.specs.Tables.{Tables, cell_of}
+use Rattle.tables.specs.declared.lent.Tables.{Tables as Given}
 use Rattle.player_lines.specs.Lines.{entry}
 
 pub record Seven : Type 0 where
@@ -22,18 +20,12 @@ pub record Seven : Type 0 where
 abbrev pub seven : List ℕ → List ℕ → List ℕ → List ℕ → List ℕ → List ℕ → List ℕ → Seven
 seven starts points ranks kept opponents colours results = record { starts = starts; points = points; ranks = ranks; kept = kept; opponents = opponents; colours = colours; results = results }
 
--- those of the tables that the writer is lent
+-- those of the tables that the writer is lent, as the statement has them and as the struct does
 abbrev pub seven_of : Tables → Seven
 seven_of t = seven t.starts t.points t.ranks t.kept t.opponents t.colours t.results
 
-pub record Long (t : Seven) : Type 0 where
-  pub starts : most_players ≤ length t.starts
-  pub points : most_players ≤ length t.points
-  pub ranks : most_players ≤ length t.ranks
-  pub kept : kept_cells ≤ length t.kept
-  pub opponents : entry_cells ≤ length t.opponents
-  pub colours : entry_cells ≤ length t.colours
-  pub results : entry_cells ≤ length t.results
+abbrev pub seven_in : Given → Seven
+seven_in t = seven t.starts.now t.points.now t.ranks.now t.kept.now t.opponents.now t.colours.now t.results.now
 
 -- a player's entry in round r, and those of the first rounds
 abbrev pub entry_at : List ℕ → List ℕ → List ℕ → ℕ → ℕ → Entry
@@ -56,13 +48,3 @@ player_in t rounds place =
 -- the first players
 unfoldable pub players_in : Seven → ℕ → ℕ → List Player
 players_in t rounds players = map (player_in t rounds) (from 0 players)
-
--- ---- the lent tables as a clause names them: in a `requires`, and in an `ensures`
-abbrev Cells : Type 0
-Cells = Bor (List ℕ)
-
-abbrev pub lent : Cells → Cells → Cells → Cells → Cells → Cells → Cells → Seven
-lent t0 t1 t2 t3 t4 t5 t6 = seven t0.now t1.now t2.now t3.now t4.now t5.now t6.now
-
-abbrev pub given : Both Cells Cells → Both Cells Cells → Both Cells Cells → Both Cells Cells → Both Cells Cells → Both Cells Cells → Both Cells Cells → Seven
-given t0 t1 t2 t3 t4 t5 t6 = lent t0.entry t1.entry t2.entry t3.entry t4.entry t5.entry t6.entry

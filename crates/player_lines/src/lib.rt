@@ -12,9 +12,10 @@ ghost use Rattle.law.specs.Writing.{id_text, result_text, entries_from, player_l
 ghost use Rattle.puts.specs.Puts.{Puts};
 ghost use Rattle.puts.specs.Ends.{end_wide, ended_by};
 ghost use Rattle.player_lines.specs.Lines.{head_text, head_wide, entry, entry_text, entry_wide, player_wide};
-ghost use Rattle.player_lines.specs.Rows.{Long, lent, given, entries_in, player_in, players_in};
+ghost use Rattle.player_lines.specs.Rows.{seven_in, entries_in, player_in, players_in};
 
 use puts::{BETWEEN, START_COLUMNS, Terminator};
+use tables::Tables;
 use types::{KEPT_COLUMNS, Place, Rank, StartNumber};
 
 // How many columns a rank has.
@@ -60,47 +61,39 @@ fn put_entry(out: &mut [u8], at: usize, id: StartNumber, colour: u8, res: u8) ->
 }
 
 // The first rounds of the player in a place; `rows::slots_of` reads them.
-fn put_entries(
-    out: &mut [u8],
-    at: usize,
-    place: Place,
-    rounds: u32,
-    opponents: &[u32],
-    colours: &[u8],
-    results: &[u8],
-) -> usize
-    requires place_lt_most_players { (place.0 < most_players) × (rounds ≤ most_rounds) × (entry_cells ≤ length opponents.now) × (entry_cells ≤ length colours.now) × (entry_cells ≤ length results.now) }
-    requires entry_wide_in_bounds { at + rounds * entry_wide ≤ length out.old }
-    ensures { Puts (laid (suc head_wide) (entries_from 1 (entries_in opponents.now colours.now results.now place.0 rounds))) (rounds * entry_wide) at out.old out.new result }
+fn put_entries(out: &mut [u8], at: usize, tables: &Tables<'_>, place: Place, rounds: u32) -> usize
+    requires place { place.0 < most_players }
+    requires rounds { rounds ≤ most_rounds }
+    requires room { at + rounds * entry_wide ≤ length out.old }
+    ensures { Puts (laid (suc head_wide) (entries_from 1 (entries_in tables.now.opponents.now tables.now.colours.now tables.now.results.now place.0 rounds))) (rounds * entry_wide) at out.old out.new result }
 {
     let mut next = at;
-    let mut done = 0;
-    while done < rounds {
-        let i = tables::cell_of(place, done + 1);
-        next = put_entry(out, next, StartNumber(opponents[i]), colours[i], results[i]);
-        done += 1;
+    for done in 0..rounds {
+        let round = done + 1;
+        let id = tables.opponent_at(place, round);
+        let colour = tables.colour_at(place, round);
+        next = put_entry(out, next, id, colour, tables.result_at(place, round));
     }
     next
 }
 
-// A 001 line up to the rank, with the kept columns from a cell of their table on; `rows::player_of` reads it.
+// A 001 line up to the rank, with the kept columns; `rows::player_of` reads it.
 fn put_head(
     out: &mut [u8],
     at: usize,
     start: StartNumber,
-    kept: &[u8],
-    from: usize,
+    kept: [u8; KEPT_COLUMNS],
     points: u32,
     rank: Rank,
 ) -> usize
-    requires { (at + head_wide ≤ length out.old) × (from + width kept_field ≤ length kept.now) }
-    ensures { Puts (head_text start.0 (take (width kept_field) (drop from kept.now)) points rank.0) head_wide at out.old out.new result }
+    requires { at + head_wide ≤ length out.old }
+    ensures { Puts (head_text start.0 kept points rank.0) head_wide at out.old out.new result }
 {
-    let at = puts::put_code(out, at, b'0', b'0', b'1');
+    let at = puts::put_code(out, at, b"001");
     let at = puts::put_blanks(out, at, BETWEEN);
     let at = puts::put_number(out, at, START_COLUMNS, start.0, b' ');
     let at = puts::put_blanks(out, at, BETWEEN);
-    let at = puts::put_part(out, at, kept, from, KEPT_COLUMNS);
+    let at = puts::put(out, at, &kept);
     let at = puts::put_blanks(out, at, BETWEEN);
     let at = puts::put_points(out, at, points, b' ');
     let at = puts::put_blanks(out, at, BETWEEN);
@@ -108,68 +101,43 @@ fn put_head(
 }
 
 // The 001 line of the player in a place; `rows::player_of` reads it.
-fn put_player(
-    out: &mut [u8],
-    at: usize,
-    place: Place,
-    rounds: u32,
-    starts: &[u32],
-    points: &[u32],
-    ranks: &[u32],
-    kept: &[u8],
-    opponents: &[u32],
-    colours: &[u8],
-    results: &[u8],
-) -> usize
-    requires long { Long (lent starts points ranks kept opponents colours results) }
-    requires place_lt_most_players { (place.0 < most_players) × (rounds ≤ most_rounds) × (at + player_wide rounds ≤ length out.old) }
-    ensures { Puts (player_line (player_in (given starts points ranks kept opponents colours results) rounds place.0)) (player_wide rounds) at out.old out.new result }
+fn put_player(out: &mut [u8], at: usize, tables: &Tables<'_>, place: Place, rounds: u32) -> usize
+    requires place { place.0 < most_players }
+    requires rounds { rounds ≤ most_rounds }
+    requires room { at + player_wide rounds ≤ length out.old }
+    ensures { Puts (player_line (player_in (seven_in tables.now) rounds place.0)) (player_wide rounds) at out.old out.new result }
 {
-    let start = tables::start_at(starts, place);
-    let from = tables::kept_cell(place);
-    let stated = tables::points_at(points, place);
-    let rank = tables::rank_at(ranks, place);
-    let at = put_head(out, at, start, kept, from, stated, rank);
-    put_entries(out, at, place, rounds, opponents, colours, results)
+    let start = tables.start_at(place);
+    let kept = tables.kept_at(place);
+    let at = put_head(
+        out,
+        at,
+        start,
+        kept,
+        tables.points_at(place),
+        tables.rank_at(place),
+    );
+    put_entries(out, at, tables, place, rounds)
 }
 
 // The first players, each with its terminator.
 pub fn put_players(
     out: &mut [u8],
     at: usize,
+    tables: &Tables<'_>,
     players: u32,
     rounds: u32,
-    starts: &[u32],
-    points: &[u32],
-    ranks: &[u32],
-    kept: &[u8],
-    opponents: &[u32],
-    colours: &[u8],
-    results: &[u8],
     end: Terminator,
 ) -> usize
-    requires long { Long (lent starts points ranks kept opponents colours results) }
-    requires players_le_most_players { (players ≤ most_players) × (rounds ≤ most_rounds) × (at + players * (player_wide rounds + end_wide end) ≤ length out.old) }
-    ensures { Puts (flat (ended_by end) (map player_line (players_in (given starts points ranks kept opponents colours results) rounds players))) (players * (player_wide rounds + end_wide end)) at out.old out.new result }
+    requires players { players ≤ most_players }
+    requires rounds { rounds ≤ most_rounds }
+    requires room { at + players * (player_wide rounds + end_wide end) ≤ length out.old }
+    ensures { Puts (flat (ended_by end) (map player_line (players_in (seven_in tables.now) rounds players))) (players * (player_wide rounds + end_wide end)) at out.old out.new result }
 {
     let mut next = at;
-    let mut i = 0;
-    while i < players {
-        let ended = put_player(
-            out,
-            next,
-            Place(i),
-            rounds,
-            starts,
-            points,
-            ranks,
-            kept,
-            opponents,
-            colours,
-            results,
-        );
+    for i in 0..players {
+        let ended = put_player(out, next, tables, Place(i), rounds);
         next = puts::put_end(out, ended, end);
-        i += 1;
     }
     next
 }

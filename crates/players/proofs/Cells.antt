@@ -22,7 +22,7 @@ module _ (p : PlayerLine) (n ln : ℕ) (row : Row) (e : row ≡ the_row p) (t : 
   pub player_stored : {x0 x1 x2 x3 x4 x5 x6 x8 : List ℕ}
       → x0 ≡ set t.starts n row.start.0 → x1 ≡ set t.points n row.points → x2 ≡ set t.ranks n row.rank.0
       → x3 ≡ paste t.kept (n * width kept_field) row.kept (width kept_field)
-      → x4 ≡ put_row cell_of t.opponents n row.ids most_rounds → x5 ≡ put_row cell_of t.colours n row.colours most_rounds → x6 ≡ put_row cell_of t.results n row.results most_rounds
+      → x4 ≡ put_row 0 cell_of t.opponents n row.ids most_rounds → x5 ≡ put_row 0 cell_of t.colours n row.colours most_rounds → x6 ≡ put_row 0 cell_of t.results n row.results most_rounds
       → x8 ≡ set t.lines n ln → nine x0 x1 x2 x3 x4 x5 x6 t.text x8 ≡ store_player p n ln t
   unfolding store_player the_row ids_of colours_of results_of
   player_stored e0 e1 e2 e3 e4 e5 e6 e8 =
@@ -30,7 +30,7 @@ module _ (p : PlayerLine) (n ln : ℕ) (row : Row) (e : row ≡ the_row p) (t : 
       let u1 = e1 ∙ ap (λ (r : Row). set t.points n r.points) e in
       let u2 = e2 ∙ ap (λ (r : Row). set t.ranks n r.rank.0) e in
       let u3 = e3 ∙ ap (λ (r : Row). paste t.kept (n * width kept_field) r.kept (width kept_field)) e in
-      let u4 = e4 ∙ ap (λ (r : Row). put_row cell_of t.opponents n r.ids most_rounds) e in
-      let u5 = e5 ∙ ap (λ (r : Row). put_row cell_of t.colours n r.colours most_rounds) e in
-      let u6 = e6 ∙ ap (λ (r : Row). put_row cell_of t.results n r.results most_rounds) e in
+      let u4 = e4 ∙ ap (λ (r : Row). put_row 0 cell_of t.opponents n r.ids most_rounds) e in
+      let u5 = e5 ∙ ap (λ (r : Row). put_row 0 cell_of t.colours n r.colours most_rounds) e in
+      let u6 = e6 ∙ ap (λ (r : Row). put_row 0 cell_of t.results n r.results most_rounds) e in
       nine-≡ u0 u1 u2 u3 u4 u5 u6 refl e8

@@ -1,18 +1,18 @@
 -- The bytes of each terminator, and the kept text with its terminators. Assumes nothing.
-use mathlib.Core.Path.{◌≡◌, refl, sym, ap, ap₂, subst, ◌∙◌}
+use mathlib.Core.Path.{◌≡◌, refl, sym, ap, ap₂, ◌∙◌}
 use mathlib.Core.Bool.{true, not}
 use mathlib.Core.List.{List, [], ◌∷◌, ◌++◌, append_assoc, append-nil}
 use Prim.Native.Nat.{ℕ, ◌+◌, ◌≤◌, ◌<◌}
 use native.Mathlib.Omega.{arith}
 use lib.Dec.{eqb}
 use lib.ListN.{length, get_or, take, drop, length-append, take-append-drop}
-use lib.Seq.{take-suc, take-take}
+use lib.Seq.{take-suc, take_all}
 use native.Mathlib.Numerals.{add-one}
 use borrow.Author.Tests.{not-true, eq-eqb, ne_eqb}
 use Rattle.kit.specs.Lists.{flat}
 use Rattle.kit.specs.First.{AllOf}
 use Rattle.kit.proofs.Bools.{and}
-use Rattle.law.specs.Lines.{CR, LF, has_no_cr}
+use Rattle.law.specs.Lines.{CR, has_no_cr}
 use Rattle.law.specs.Text.{ended}
 use Rattle.puts.specs.Puts.{Puts}
 use Rattle.puts.proofs.Puts.{puts_as, puts_none, puts_then}
@@ -61,13 +61,6 @@ relined-lines e (l ∷ ls) h =
     relined-append e (ended l) (flat ended ls)
     ∙ ap₂ (λ (a b : List ℕ). a ++ b) (relined-append e l (CR ∷ []) ∙ ap₂ (λ (a b : List ℕ). a ++ b) (relined-line e l h.0) (relined-end e)) (relined-lines e ls h.1)
 
--- ---- what is put for a terminator
-pub put_crlf : {e : Terminator} → e ≡ terminator.CrLf → {at r : ℕ} {x y : List ℕ} → Puts (CR ∷ LF ∷ []) 2 at x y r → Puts (end_text e) (end_wide e) at x y r
-put_crlf h {at} {r} {x} {y} p = subst (λ (e : Terminator). Puts (end_text e) (end_wide e) at x y r) (sym h) p
-
-pub put_cr : {e : Terminator} → e ≡ terminator.Cr → {at r : ℕ} {x y : List ℕ} → Puts (CR ∷ []) 1 at x y r → Puts (end_text e) (end_wide e) at x y r
-put_cr h {at} {r} {x} {y} p = subst (λ (e : Terminator). Puts (end_text e) (end_wide e) at x y r) (sym h) p
-
 -- ---- a byte of the kept text
 pub kept-cr : (e : Terminator) (c : ℕ) → c ≡ CR → end_text e ≡ kept_text e c
 kept-cr e c h = rw (eq-eqb c CR h) refl
@@ -92,31 +85,27 @@ module _ (e : Terminator) (text : List ℕ) where
   none-wide = refl
 
 -- ---- the kept text, of which i bytes are put
-pub record Relined (e : Terminator) (text : List ℕ) (n at : ℕ) (x y : List ℕ) (next i : ℕ) : Type 0 where
-  pub upto : i ≤ n
+pub record Relined (e : Terminator) (text : List ℕ) (at : ℕ) (x y : List ℕ) (next i : ℕ) : Type 0 where
   pub put : Puts (relined e (take i text)) (length (relined e (take i text))) at x y next
 
-module _ (e : Terminator) (text : List ℕ) (n at : ℕ) (x : List ℕ) where
-  pub relined-start : at ≤ length x → Relined e text n at x x at 0
+module _ (e : Terminator) (text : List ℕ) (at : ℕ) (x : List ℕ) where
+  pub relined-start : at ≤ length x → Relined e text at x x at 0
   unfolding relined
-  relined-start l = record { upto = omega arith; put = puts_none l }
+  relined-start l = record { put = puts_none l }
 
-  pub relined-next : {y z : List ℕ} {next next' i : ℕ} → Relined e text n at x y next i → i < n → n ≤ length text
-      → Puts (kept_text e (get_or text i 0)) (length (kept_text e (get_or text i 0))) next y z next' → Relined e text n at x z next' (i + 1)
-  relined-next {y} {z} {next} {next'} {i} h l m p =
-      record { upto = omega arith; put = puts_as (sym (one_more e text i (omega arith))) (sym (one_wider e text i (omega arith))) refl (puts_then h.put p) }
+  pub relined-next : {y z : List ℕ} {next next' i : ℕ} → Relined e text at x y next i → i < length text
+      → Puts (kept_text e (get_or text i 0)) (length (kept_text e (get_or text i 0))) next y z next' → Relined e text at x z next' (i + 1)
+  relined-next {y} {z} {next} {next'} {i} h l p =
+      record { put = puts_as (sym (one_more e text i l)) (sym (one_wider e text i l)) refl (puts_then h.put p) }
 
-  pub relined-all : {y : List ℕ} {next i : ℕ} → Relined e text n at x y next i → n ≤ i → Puts (relined e (take n text)) (length (relined e (take n text))) at x y next
-  relined-all {y} {next} {i} h l = let u = h.upto in let k : i ≡ n = omega arith in puts_as (ap (λ (j : ℕ). relined e (take j text)) k) (ap (λ (j : ℕ). length (relined e (take j text))) k) refl h.put
+  pub relined-all : {y : List ℕ} {next i : ℕ} → Relined e text at x y next i → length text ≤ i → Puts (relined e text) (length (relined e text)) at x y next
+  relined-all {y} {next} {i} h l = let k : take i text ≡ text = take_all i text l in puts_as (ap (relined e) k) (ap (λ (t : List ℕ). length (relined e t)) k) refl h.put
 
   -- there is room for the next byte
-  pub relined-room : {y : List ℕ} {next i : ℕ} → Relined e text n at x y next i → i < n → n ≤ length text → at + length (relined e (take n text)) ≤ length x → next + length (kept_text e (get_or text i 0)) ≤ length y
-  relined-room {y} {next} {i} h l m r =
-      let a = one_wider e text i (omega arith) in
-      let b = ap length (whole (i + 1) (omega arith)) ∙ length-append (relined e (take (i + 1) text)) (relined e (drop (i + 1) (take n text))) in
+  pub relined-room : {y : List ℕ} {next i : ℕ} → Relined e text at x y next i → i < length text → at + length (relined e text) ≤ length x → next + length (kept_text e (get_or text i 0)) ≤ length y
+  relined-room {y} {next} {i} h l r =
+      let a = one_wider e text i l in
+      let b = ap length (ap (relined e) (sym (take-append-drop (i + 1) text)) ∙ relined-append e (take (i + 1) text) (drop (i + 1) text)) ∙ length-append (relined e (take (i + 1) text)) (relined e (drop (i + 1) text)) in
       let c = h.put.ends in
       let d = h.put.long in
       omega arith
-    where
-      whole : (k : ℕ) → k ≤ n → relined e (take n text) ≡ relined e (take k text) ++ relined e (drop k (take n text))
-      whole k q = ap (relined e) (sym (take-append-drop k (take n text))) ∙ relined-append e (take k (take n text)) (drop k (take n text)) ∙ ap (λ (l : List ℕ). relined e l ++ relined e (drop k (take n text))) (take-take k n text q)

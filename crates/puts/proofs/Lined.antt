@@ -6,7 +6,7 @@ use native.Mathlib.Nat.{zero-mul, suc-mul, mul-le-mul_right}
 use native.Mathlib.Numerals.{add-one}
 use native.Mathlib.Omega.{arith}
 use lib.ListN.{length, get_or, take}
-use lib.Seq.{take-suc, take_all}
+use lib.Seq.{take-suc, take_all, take-length}
 use Rattle.kit.specs.Lists.{flat, from}
 use Rattle.kit.proofs.Lists.{flat_snoc, length_from}
 use Rattle.puts.specs.Puts.{Puts}
@@ -71,5 +71,6 @@ unfolding flat
 flat_map f h [] = refl
 flat_map f h (a ∷ l) = ap (λ (r : List _). f (h a) ++ r) (flat_map f h l)
 
-pub lined_map : {A B : Type 0} (g : B → List ℕ) (h : A → B) {w : ℕ} {l : List A} {n at : ℕ} {x y : List ℕ} {j next : ℕ} → Lined (λ a. g (h a)) w l n at x y j next → n ≤ j → Puts (flat g (map h (take n l))) (n * w) at x y next
-lined_map g h {l = l} {n = n} p a = puts_as (flat_map g h (take n l)) refl refl (lined_all p a)
+-- all of l
+pub lined_map : {A B : Type 0} (g : B → List ℕ) (h : A → B) {w : ℕ} {l : List A} {at : ℕ} {x y : List ℕ} {j next : ℕ} → Lined (λ a. g (h a)) w l (length l) at x y j next → length l ≤ j → Puts (flat g (map h l)) (length l * w) at x y next
+lined_map g h {l = l} p a = puts_as (flat_map g h (take (length l) l) ∙ ap (λ (r : List _). flat g (map h r)) (take-length l)) refl refl (lined_all p a)

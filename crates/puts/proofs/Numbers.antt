@@ -30,9 +30,6 @@ run_last : (c k : ℕ) → run c (suc k) ≡ run c k ++ (c ∷ [])
 run_last c zero = refl
 run_last c (suc k) = ap (λ (l : List ℕ). c ∷ l) (run_last c k)
 
-pub run_more : (c k : ℕ) → run c (k + 1) ≡ run c k ++ (c ∷ [])
-run_more c k = ap (run c) (add-one k) ∙ run_last c k
-
 pub rest_last : (c k n : ℕ) → rest (run c) (k + 1) n ≡ rest (run c) k (n / 10) ++ (cond (eqb n 0) c (digit n) ∷ [])
 rest_last c k n = ap (λ (m : ℕ). rest (run c) m n) (add-one k) ∙ go (eqb n 0) refl
   where

@@ -6,7 +6,7 @@ use native.Mathlib.Nat.{zero-add, add_assoc}
 use native.Mathlib.Numerals.{add-one}
 use native.Mathlib.Omega.{arith}
 use lib.ListN.{length, get_or, set, take, drop, length-append, length-set, get_or-append}
-use lib.Seq.{paste, paste-zero, length-paste, take-paste, drop-paste, take_all, drop-drop, append_snoc, set_split, set-append_left, take-set-lt, drop-set-lt, length-take-le, take-take, get_or-append-add, get_or-drop}
+use lib.Seq.{paste, paste-zero, take-paste, drop-paste, take_all, drop-drop, append_snoc, set_split, set-append_left, take-set-lt, drop-set-lt, length-take-le, get_or-append-add, get_or-drop}
 use Rattle.kit.specs.Table.{Holds}
 use Rattle.puts.specs.Puts.{Puts}
 
@@ -36,17 +36,6 @@ puts_byte {at} {v} {x} l =
       long = length-set x at v;
       ends = refl;
       written = set_split x at v l ∙ sym (append_snoc (take at x) v (drop (suc at) x)) ∙ ap (λ (k : ℕ). take at x ++ (v ∷ []) ++ drop k x) (sym (add-one at));
-    }
-
--- ---- bytes of another list
-pub puts_copy : {at : ℕ} {x y : List ℕ} (s : List ℕ) (n : ℕ) → n ≤ length s → at + n ≤ length x → y ≡ paste x at s n → Puts (take n s) n at x y (at + n)
-puts_copy {at} {x} {y} s n l r e =
-    record {
-      wide = length-take-le n s l;
-      room = r;
-      long = ap length e ∙ length-paste x at s n r l;
-      ends = refl;
-      written = e ∙ ap (λ (u : List ℕ). take at x ++ u ++ drop (at + n) x) (sym (take-take n n s (omega arith)));
     }
 
 -- ---- some, and then others
@@ -97,10 +86,6 @@ module _ {a : List ℕ} {n at i : ℕ} {x y : List ℕ} (p : Puts a n at x y i) 
 pub a_column : (w : ℕ) → 1 ≤ suc w
 a_column w = omega arith
 
--- one byte more, at the next position, which the code says as k
-pub puts_store : {a : List ℕ} {n at i : ℕ} {x y : List ℕ} → Puts a n at x y i → (k v : ℕ) → k ≡ i → k < length x → Puts (a ++ (v ∷ [])) (n + 1) at x (set y k v) (k + 1)
-puts_store {a} {n} {at} {i} {x} {y} p k v e l = puts_then (puts_as refl refl (sym e) p) (puts_byte (let z = p.long in omega arith))
-
 -- one byte before them, put after them
 pub puts_before : {a : List ℕ} {n at j v : ℕ} {x y : List ℕ} → Puts a n (at + 1) x y j → Puts (v ∷ a) (n + 1) at x (set y at v) j
 puts_before {a} {n} {at} {j} {v} {x} {y} p =
@@ -123,10 +108,6 @@ puts_before {a} {n} {at} {j} {v} {x} {y} p =
       written = first ∙ moved;
     } in
     puts_as refl (omega arith) refl (puts_then (puts_byte l) later)
-
--- four bytes that are equal to four others
-pub four : {a b c d a' b' c' d' : ℕ} → a ≡ a' → b ≡ b' → c ≡ c' → d ≡ d' → ◌≡◌ {A = List ℕ} (a ∷ b ∷ c ∷ d ∷ []) (a' ∷ b' ∷ c' ∷ d' ∷ [])
-four e f g h = cc
 
 -- the last piece of a line that is laid out has nothing after it
 pub puts_last : {a : List ℕ} {n at j : ℕ} {x y : List ℕ} → Puts a n at x y j → Puts (a ++ []) n at x y j

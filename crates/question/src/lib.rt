@@ -1,21 +1,17 @@
 // The question: what a player earned before a round, and the acceleration for it. Promised: what the statement says of a question, for every input.
 #![tactic(auto)]
 
-ghost use Rattle.std.specs.Prelude.{◌≡◌, ◌&&◌, List, ◌≤◌, leb, ltb, take};
+ghost use Rattle.std.specs.Prelude.{◌≡◌, ◌&&◌, leb, ltb};
 ghost use Rattle.kit.specs.Lists.{first};
-ghost use Rattle.law.specs.Sizes.{most_accelerations};
 ghost use Rattle.law.specs.Accelerations as law;
 ghost use Rattle.law.specs.Refusals.{refusal};
 ghost use Rattle.law.specs.Writing.{points_or0};
 ghost use Rattle.law.specs.Calls.{score_answer, Asks};
-ghost use Rattle.join.specs.Grid.{first_from};
-ghost use Rattle.turns.specs.Found.{as_found_record};
-ghost use Rattle.types.specs.declared.Acceleration as lent;
-ghost use Rattle.lawful.specs.Given.{tables_of, Given};
-ghost use Rattle.question.specs.Covering.{covers_at};
+ghost use Rattle.types.specs.Faults.{number_of};
+ghost use Rattle.lawful.specs.Given.{tables_of};
 
-use turns::{FoundRecord, RecordNumber};
-use types::{Acceleration, Answer, LineNumber, MOST_ACCELERATIONS, Place, Score, StartNumber};
+use tables::Tables;
+use types::{Acceleration, Answer, Fault, LineNumber, Place, Score, StartNumber};
 
 // Whether a record covers a start number in a round.
 fn covers(a: Acceleration, start: StartNumber, round: u32) -> bool
@@ -26,42 +22,16 @@ fn covers(a: Acceleration, start: StartNumber, round: u32) -> bool
     rounds & starts
 }
 
-// The first of n records that does.
-fn first_covering(
-    records: [Acceleration; MOST_ACCELERATIONS],
-    n: usize,
-    start: StartNumber,
-    round: u32,
-) -> FoundRecord
-    requires { n ≤ most_accelerations }
-    ensures { result ≡ as_found_record (first_from (covers_at start.0 round records) 0 n) }
+// The points that records add for a start number in a round: those of the first that covers it, 0 if none does.
+fn acceleration_for(records: &[Acceleration], start: StartNumber, round: u32) -> u32
+    ensures { result ≡ points_or0 (first (law.covers start.0 round) records.now) }
 {
-    let mut j = 0;
-    while j < n {
-        if covers(records[j], start, round) {
-            return FoundRecord::At(RecordNumber(j));
+    for a in records {
+        if covers(*a, start, round) {
+            return a.points;
         }
-        j += 1;
     }
-    FoundRecord::Nothing
-}
-
-// The points that n records add for a start number in a round: 0 if none covers it.
-fn acceleration_for(
-    records: [Acceleration; MOST_ACCELERATIONS],
-    n: usize,
-    start: StartNumber,
-    round: u32,
-) -> u32
-    requires { n ≤ most_accelerations }
-    ensures { result ≡ points_or0 (first (law.covers start.0 round) (take n records)) }
-{
-    let FoundRecord::At(number) = first_covering(records, n, start, round) else {
-        return 0;
-    };
-    let j = number.0;
-    let a = records[j];
-    a.points
+    0
 }
 
 // Whether a reading has such a place, and such a round.
@@ -72,11 +42,11 @@ fn is_inside(answer: Answer, place: Place, round: u32) -> bool
 }
 
 // The answer of a refusal.
-fn refused(number: u32) -> Score
-    ensures { result ≡ score_answer (refusal number 0 0) 0 0 }
+fn refused(fault: Fault) -> Score
+    ensures { result ≡ score_answer (refusal (number_of fault) 0 0) 0 0 }
 {
     Score {
-        number,
+        number: fault.number(),
         line: LineNumber(0),
         round: 0,
         points: 0,
@@ -84,7 +54,7 @@ fn refused(number: u32) -> Score
     }
 }
 
-// The question: of a reading, a place in its tables and a round. all: the first acceleration records, of which so many are lent.
+// The question: of a reading, a place in its tables and a round. C lends each table by itself, and of no length that is known, so that they come one by one.
 pub fn ask_core(
     answer: Answer,
     starts: &[u32],
@@ -95,14 +65,13 @@ pub fn ask_core(
     colours: &[u8],
     results: &[u8],
     text: &[u8],
-    all: [Acceleration; MOST_ACCELERATIONS],
-    accelerations: usize,
+    accelerations: &[Acceleration],
     place: Place,
     round: u32,
 ) -> Score
-    ensures { (records : List lent.Acceleration) → Given accelerations all records → Asks answer (tables_of starts.now points.now ranks.now kept.now opponents.now colours.now results.now text.now records) place round result }
+    ensures { Asks answer (tables_of starts.now points.now ranks.now kept.now opponents.now colours.now results.now text.now accelerations.now) place round result }
 {
-    let long = tables::enough(
+    if !tables::enough(
         starts.len(),
         points.len(),
         ranks.len(),
@@ -111,27 +80,34 @@ pub fn ask_core(
         colours.len(),
         results.len(),
         text.len(),
-        accelerations,
-    );
-    if !long {
-        return refused(1);
-    }
-    if !lawful::is_reading(
-        answer, starts, points, ranks, kept, opponents, colours, results, text, all,
+        accelerations.len(),
     ) {
-        return refused(18);
+        return refused(Fault::TableShort);
+    }
+    let tables = Tables {
+        starts,
+        points,
+        ranks,
+        kept,
+        opponents,
+        colours,
+        results,
+        text,
+    };
+    let records = lent_records::taken(accelerations);
+    if !lawful::is_reading(answer, &tables, &records) {
+        return refused(Fault::NoReading);
     }
     if !is_inside(answer, place, round) {
-        return refused(20);
+        return refused(Fault::NoPlace);
     }
-    let values = answer.values;
-    let start = tables::start_at(starts, place);
-    let n = answer.accelerations as usize;
+    let start = tables.start_at(place);
+    let records = &records[..answer.accelerations as usize];
     Score {
         number: 0,
         line: LineNumber(0),
         round: 0,
-        points: closings::sum_of(results, values, place, round - 1),
-        acceleration: acceleration_for(all, n, start, round),
+        points: closings::sum_of(&tables, answer.values, place, round - 1),
+        acceleration: acceleration_for(records, start, round),
     }
 }

@@ -20,6 +20,7 @@ use Rattle.law.proofs.ReadsOnce.{rooms-are, lent-enough}
 use Rattle.join.specs.Store.{Nine}
 use Rattle.join.specs.Kept.{Long, Zeroed}
 use Rattle.join.proofs.Cells.{holds_then}
+use Rattle.tables.specs.Lent.{nine}
 use Rattle.lines_read.specs.declared.CoreAnswer.{CoreAnswer}
 use Rattle.lines_read.specs.Core.{no_records, refused_core, HoldNine, WithinNine, LinesLeave, LinesRead}
 use Rattle.reader.specs.Core.{lent_with, filled_in, CoreReads}
@@ -27,6 +28,11 @@ use Rattle.reader.specs.Core.{lent_with, filled_in, CoreReads}
 -- by the answer's name
 pub core_as : {file : List ℕ} {b x : Nine} {n : ℕ} {r u : CoreAnswer} → r ≡ u → CoreReads file b n u x → CoreReads file b n r x
 core_as {file} {b} {x} {n} e h = subst (λ (v : CoreAnswer). CoreReads file b n v x) (sym e) h
+
+-- by the cells that the references end with
+pub ended : {file : List ℕ} {b y : Nine} {n : ℕ} {r : CoreAnswer} {x0 x1 x2 x3 x4 x5 x6 x7 x8 : List ℕ} → CoreReads file b n r y
+    → x0 ≡ y.starts → x1 ≡ y.points → x2 ≡ y.ranks → x3 ≡ y.kept → x4 ≡ y.opponents → x5 ≡ y.colours → x6 ≡ y.results → x7 ≡ y.text → x8 ≡ y.lines → CoreReads file b n r (nine x0 x1 x2 x3 x4 x5 x6 x7 x8)
+ended h e0 e1 e2 e3 e4 e5 e6 e7 e8 = rw (e0, e1, e2, e3, e4, e5, e6, e7, e8) h
 
 -- ---- cleared tables
 pub zeroed_self : {b x : Nine} → Zeroed b x → Zeroed x x
@@ -106,20 +112,6 @@ long_of b records h =
       },
       r.accelerations,
     )
-
-pub long_as : {b x : Nine} → Long b → Zeroed b x → Long x
-long_as l z =
-    record {
-      starts = let e = z.starts.long in let h = l.starts in omega arith;
-      points = let e = z.points.long in let h = l.points in omega arith;
-      ranks = let e = z.ranks.long in let h = l.ranks in omega arith;
-      kept = let e = z.kept.long in let h = l.kept in omega arith;
-      opponents = let e = z.opponents.long in let h = l.opponents in omega arith;
-      colours = let e = z.colours.long in let h = l.colours in omega arith;
-      results = let e = z.results.long in let h = l.results in omega arith;
-      text = let e = z.text.long in let h = l.text in omega arith;
-      lines = let e = z.lines.long in let h = l.lines in omega arith;
-    }
 
 -- ---- the records, filled in
 records-held : (f : ℕ → Acceleration) (all before : List Acceleration) → Holds no_acceleration most_accelerations f no_records all → most_accelerations ≤ length before

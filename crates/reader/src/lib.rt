@@ -5,7 +5,8 @@ ghost use Rattle.tables.specs.Lent.{before, after};
 ghost use Rattle.reader.specs.Core.{CoreReads};
 
 use lines_read::CoreAnswer;
-use types::{LineNumber, MOST_ACCELERATIONS, MOST_FILE};
+use tables::TablesMut;
+use types::{Fault, MOST_ACCELERATIONS, MOST_FILE, Refusal};
 
 // A reading: the file, the nine lent tables of numbers, and how many acceleration records are lent.
 pub fn read_core(
@@ -36,22 +37,27 @@ pub fn read_core(
         accelerations,
     );
     if !(numbered & long) {
-        return lines_read::refused(1, LineNumber(0), 0, 0);
+        return lines_read::refused(Refusal::from(Fault::TableShort), 0);
     }
-    tables::clear(
-        starts, points, ranks, kept, opponents, colours, results, text, lines,
-    );
+    let mut tables = TablesMut {
+        starts,
+        points,
+        ranks,
+        kept,
+        opponents,
+        colours,
+        results,
+        text,
+        lines,
+    };
+    tables.clear();
     if MOST_FILE < file.len() {
-        return lines_read::refused(2, LineNumber(0), 0, MOST_ACCELERATIONS);
+        return lines_read::refused(Refusal::from(Fault::FileBig), MOST_ACCELERATIONS);
     }
-    let done = lines_read::read_lines(
-        file, starts, points, ranks, kept, opponents, colours, results, text, lines,
-    );
-    let answer = done.answer;
-    if answer.number != 0 {
-        tables::clear(
-            starts, points, ranks, kept, opponents, colours, results, text, lines,
-        );
+    let done = lines_read::read_lines(file, &mut tables);
+    let is_refused = done.answer.number != 0;
+    if is_refused {
+        tables.clear();
     }
     done
 }

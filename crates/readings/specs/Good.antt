@@ -36,9 +36,12 @@ pub record GoodAnswer (a : Answer) : Type 0 where
 abbrev pub Unused : {A : Type 0} → A → ℕ → ℕ → List A → Type 0
 Unused d n m cells = (i : ℕ) → n ≤ i → i < m → get_or cells i d ≡ d
 
--- cells of an entry table that no player has up to round R
+-- cells of an entry table that no player has up to round R hold zero, d; in the tables that is 0
+abbrev pub UnusedCells : {A : Type 0} → A → ℕ → ℕ → List A → Type 0
+UnusedCells d n R cells = (i : ℕ) → i < entry_cells → ((place_in i < n) × (round_in i ≤ R) → ⊥) → get_or cells i d ≡ d
+
 abbrev pub UnusedEntries : ℕ → ℕ → List ℕ → Type 0
-UnusedEntries n R cells = (i : ℕ) → i < entry_cells → ((place_in i < n) × (round_in i ≤ R) → ⊥) → get_or cells i 0 ≡ 0
+UnusedEntries n R cells = UnusedCells 0 n R cells
 
 -- a player's kept columns
 abbrev pub kept_at : List ℕ → ℕ → List ℕ

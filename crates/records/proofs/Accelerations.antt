@@ -3,17 +3,12 @@ use mathlib.Core.Path.{◌≡◌, refl, ap, ◌∙◌}
 use mathlib.Core.Bool.{Bool, true}
 use mathlib.Core.Option.{Option, some}
 use mathlib.Core.List.{List}
-use Prim.Native.Nat.{ℕ, ◌+◌}
+use Prim.Native.Nat.{ℕ}
 use Rattle.kit.specs.Decides.{pair, to, when, keep}
-use Rattle.law.specs.Columns.{cells, else_blank, after_code}
+use Rattle.law.specs.Columns.{else_blank, after_code}
 use Rattle.law.specs.Accelerations.{is_acceleration, added_field, acceleration_fields}
-use Rattle.law.proofs.FieldsRead.{number_of, the_number}
 use Rattle.law.proofs.RecordsRead.{points_in, make_acceleration, acceleration_of}
 use Rattle.records.specs.Records.{span_in}
-
-pub span_by : (row : List ℕ) (i w : ℕ) (first last : Option ℕ) → the_number (number_of (cells row i w)) ≡ first → the_number (number_of (cells row (i + w + 1) w)) ≡ last
-    → span_in row i w ≡ pair first last
-span_by row i w a b p q = rw (p, q) refl
 
 pub acceleration_by : (row : List ℕ) (else : Bool) (points : Option ℕ) (rounds starts : Option (ℕ × ℕ)) → else_blank after_code acceleration_fields row ≡ else
     → points_in added_field row ≡ points → span_in row 14 3 ≡ rounds → span_in row 22 4 ≡ starts

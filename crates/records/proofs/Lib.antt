@@ -1,4 +1,3 @@
 pub mod Codes
 pub mod Told
-pub mod Heads
 pub mod Accelerations

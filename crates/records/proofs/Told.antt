@@ -1,5 +1,5 @@
 -- From what is said of a line's kind back to its kind. Assumes nothing.
-use mathlib.Core.Path.{◌≡◌, refl, sym, ap, ◌∙◌}
+use mathlib.Core.Path.{◌≡◌, refl}
 use Rattle.law.specs.Items.{Kind, passed_over, kept-text, 142-record, 152-record, 162-record, 250-record, 001-record, unlisted}
 use Rattle.fields.specs.Said.{Said, says, refuses}
 use Rattle.records.specs.Records.{or_not_listed}
@@ -17,6 +17,3 @@ said_is 162-record = refl
 said_is 250-record = refl
 said_is 001-record = refl
 said_is unlisted = refl
-
-pub kind_told : (k x : Kind) → or_not_listed k ≡ or_not_listed x → k ≡ x
-kind_told k x e = sym (said_is k) ∙ ap kind_said e ∙ said_is x

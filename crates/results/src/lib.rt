@@ -1,6 +1,8 @@
 // What a result byte is: the results of games and of byes and the unknown one, which two are those of one game, and what each earns. docs/RESULTS.md shows the grid and the worths of this
-// file. The tables are made once and lent for all entries: a constant array that is read in a loop would be made anew at each turn. Promised: what the statement says of each byte.
+// file. The tables are made once, as structs, and lent for all entries: a constant array that is read in a loop would be made anew at each turn. Promised: what the statement says of each byte.
 #![tactic(auto)]
+
+mod lent;
 
 ghost use Rattle.std.specs.Prelude.{◌≡◌, List, ℕ};
 ghost use Rattle.kit.specs.Lists.{among};
@@ -9,6 +11,7 @@ ghost use Rattle.law.specs.Entries as entries;
 ghost use Rattle.join.specs.Check.{worth_by};
 ghost use Rattle.results.specs.Order.{known_results, IsGrid, IsOrder, AreWorths, is_allocated, is_unknown};
 
+pub use lent::{Grid, Worths};
 use types::{ABSENT, DRAW, LOSS, PAIRING, UNKNOWN, VALUES, WIN};
 
 // The order of results: the eight of games, then those of byes, then the unknown one.
@@ -49,15 +52,8 @@ const FITS: [[bool; GAMES]; GAMES] = [
     [N, N, N, N, N, N, Y, Y], // -
 ];
 
-// The grid, to be lent.
-pub fn grid() -> [[bool; GAMES]; GAMES]
-    ensures { IsGrid result }
-{
-    FITS
-}
-
 // The place of each byte in the order of results.
-pub fn order() -> [u8; BYTES]
+fn order() -> [u8; BYTES]
     ensures { IsOrder result }
 {
     let mut cells = [NOWHERE; BYTES];
@@ -77,31 +73,33 @@ pub fn order() -> [u8; BYTES]
     cells
 }
 
-// What is read of a lent array brings no bound with it; a parameter does.
-fn wide(x: u8) -> usize
-    ensures { result ≡ x }
-{
-    x as usize
-}
+impl Grid {
+    // The grid of this file.
+    pub fn new() -> Grid {
+        Grid {
+            cells: FITS,
+            order: order(),
+        }
+    }
 
-// Whether two results are those of one game. An unknown one stands beside the grid: it fits only another.
-pub fn fits(grid: &[[bool; GAMES]; GAMES], order: &[u8; BYTES], a: u8, b: u8) -> bool
-    requires { IsGrid grid.now × IsOrder order.now }
-    ensures { result ≡ entries.fits a b }
-{
-    let own = wide(order[a as usize]);
-    if GAMES <= own {
-        return (a == UNKNOWN_RESULT) & (b == UNKNOWN_RESULT);
+    // Whether two results are those of one game. An unknown one stands beside the grid: it fits only another.
+    pub fn fits(&self, a: u8, b: u8) -> bool
+        ensures { result ≡ entries.fits a b }
+    {
+        let own = self.order[a as usize] as usize;
+        if GAMES <= own {
+            return (a == UNKNOWN_RESULT) & (b == UNKNOWN_RESULT);
+        }
+        let theirs = self.order[b as usize] as usize;
+        if GAMES <= theirs {
+            return false;
+        }
+        self.cells[own][theirs]
     }
-    let theirs = wide(order[b as usize]);
-    if GAMES <= theirs {
-        return false;
-    }
-    grid[own][theirs]
 }
 
 // What each result earns by the values of W D L A P X, at its place, and after them what any other byte does.
-pub fn worths(values: [u32; VALUES]) -> [u32; WORTHS]
+fn worths(values: [u32; VALUES]) -> [u32; WORTHS]
     ensures { AreWorths values result }
 {
     let win = values[WIN];
@@ -128,13 +126,25 @@ pub fn worths(values: [u32; VALUES]) -> [u32; WORTHS]
     ]
 }
 
-// What a result earns.
-pub fn worth(worths: &[u32; WORTHS], order: &[u8; BYTES], res: u8) -> u32
-    requires { IsOrder order.now }
-    ensures { (values : List ℕ) → AreWorths values worths.now → result ≡ worth_by values res }
-{
-    let place = wide(order[res as usize]);
-    worths[place]
+impl Worths {
+    // By the values of W D L A P X.
+    pub fn new(values: [u32; VALUES]) -> Worths
+        ensures { result.values ≡ values }
+    {
+        Worths {
+            values,
+            cells: worths(values),
+            order: order(),
+        }
+    }
+
+    // What a result earns.
+    pub fn of(&self, res: u8) -> u32
+        ensures { result ≡ worth_by self.now.values res }
+    {
+        let place = self.order[res as usize] as usize;
+        self.cells[place]
+    }
 }
 
 // The letters once more, as tests: asked where no table is lent. A game of a reading has one of the eight, or the unknown result.

@@ -2,66 +2,30 @@
 // Standard error has one line: `accepted`, the line of a refusal, or what could not be read or written, or was asked.
 #![tactic(auto)]
 
-use listed::Printed;
 use std::env::{Env, FillError};
 use types::{CR_ALONE, CR_LF};
 
-// How the lines shall end, by the program's words.
-#[derive(Clone, Copy)]
-enum Asked {
-    CrLf,
-    CrAlone,
-    Other,
-}
-
-fn is_cr(word: [u8; 4]) -> bool {
-    (word[0] == b'-') & (word[1] == b'-') & (word[2] == b'c') & (word[3] == b'r')
-}
-
-// A word that is longer than the buffer is another word.
-fn ends_asked(rt: &impl Env) -> Asked {
+// How the lines shall end, by the program's words, if it takes them. A word that is longer than the buffer is another word.
+fn ends_asked(rt: &impl Env) -> Option<bool> {
     let mut word = [0u8; 4];
     match rt.arg(1, &mut word) {
-        Err(FillError::NotPresent) => Asked::CrLf,
-        Ok(4) => {
-            if is_cr(word) & !has_word(rt, 2) {
-                Asked::CrAlone
-            } else {
-                Asked::Other
-            }
-        }
-        _ => Asked::Other,
+        Err(FillError::NotPresent) => Some(CR_LF),
+        Ok(4) if word == *b"--cr" && !has_word(rt, 2) => Some(CR_ALONE),
+        _ => None,
     }
 }
 
 fn has_word(rt: &impl Env, i: usize) -> bool {
     let mut word = [0u8; 1];
-    match rt.arg(i, &mut word) {
-        Err(FillError::NotPresent) => false,
-        _ => true,
-    }
-}
-
-fn rewrite(rt: HostRuntime, cr_alone: bool) {
-    let err = rt.stderr();
-    match rewritten::print_input(&mut rt.stdin(), &rt.stdout(), &err, cr_alone) {
-        Printed::Accepted => {
-            let _ = err.write_all(b"accepted\n");
-        }
-        Printed::Refused => {}
-        Printed::Unread(e) => listed::print_failure(&err, b"standard input", e),
-        Printed::Lost(e) => listed::print_failure(&err, b"standard output", e),
-    }
+    !matches!(rt.arg(i, &mut word), Err(FillError::NotPresent))
 }
 
 fn main(rt: HostRuntime) {
-    match ends_asked(&rt) {
-        Asked::CrLf => rewrite(rt, CR_LF),
-        Asked::CrAlone => rewrite(rt, CR_ALONE),
-        Asked::Other => {
-            let _ = rt
-                .stderr()
-                .write_all(b"the program takes no word but --cr\n");
-        }
-    }
+    let err = rt.stderr();
+    let Some(cr_alone) = ends_asked(&rt) else {
+        let _ = err.write_all(b"the program takes no word but --cr\n");
+        return;
+    };
+    let done = rewritten::print_input(&mut rt.stdin(), &rt.stdout(), &err, cr_alone);
+    listed::tell(&err, done);
 }

@@ -5,7 +5,7 @@ use mathlib.Core.List.{List}
 use Prim.Native.Nat.{ℕ, ◌≤◌}
 use native.Mathlib.Omega.{arith}
 use lib.ListN.{length, take-append-drop}
-use lib.Seq.{length-take-le, take_all}
+use lib.Seq.{length-take-le}
 use Rattle.io.specs.Counts.{IsPrefixLen}
 use Rattle.types.specs.declared.Acceleration.{Acceleration}
 use Rattle.types.specs.declared.Answer.{Answer}
@@ -13,7 +13,6 @@ use Rattle.types.specs.declared.Written.{Written}
 use Rattle.law.specs.Sizes.{most_accelerations}
 use Rattle.law.specs.Lines.{End, crlf}
 use Rattle.law.specs.Tables.{Tables}
-use Rattle.lawful.specs.Given.{Given}
 use Rattle.law.specs.Writing.{longest}
 use Rattle.law.specs.Calls.{end_of, written_answer, Reads, Writes, write_refused, write_done}
 use Rattle.demands.proofs.ReadBack.{fits}
@@ -24,7 +23,7 @@ use Rattle.lines_read.specs.declared.CoreAnswer.{CoreAnswer}
 use Rattle.reader.specs.Core.{lent_with, CoreReads}
 use Rattle.listed.specs.Printed.{Numbered}
 use Rattle.listed.proofs.Laws.{enough-lent, reads-numbered}
-use Rattle.rewritten.specs.declared.Rewritten.{Rewritten}
+use Rattle.listed.specs.declared.Made.{Made}
 use Rattle.rewritten.specs.Rewrites.{Rewrites}
 
 room : (end : End) (a : Answer) (t : Tables) (x : List ℕ) (r : Written) (y : List ℕ) → Writes end a t x r y → r.length ≤ length y
@@ -44,11 +43,10 @@ either_fits true l = omega arith
 -- the tables are lent with the very records that the reading answers, so that what it fills in of them changes none
 pub core_rewrites : {end : End} {file : List ℕ} {b : Nine} {core : CoreAnswer} {x : Nine} {before : List ℕ} {w : Written} {after : List ℕ}
     → CoreReads file b most_accelerations core x → length core.records ≡ most_accelerations → Long b → longest end ≤ length before
-    → ((records : List Acceleration) → Given most_accelerations core.records records → Writes end core.answer (lent_with x records).tables before w after)
+    → Writes end core.answer (lent_with x core.records).tables before w after
     → IsPrefixLen w.length after × Rewrites end file before (record { answer = core.answer; length = w.length }) after
-core_rewrites {end} {file} {b} {core} {x} {before} {w} {after} read e long roomy write =
+core_rewrites {end} {file} {b} {core} {x} {before} {w} {after} read e long roomy writes =
     let all : List Acceleration = core.records in
-    let writes = write all (record { long = e; firsts = λ k. sym (take_all most_accelerations all (omega arith)) }) in
     let k = room end core.answer (lent_with x all).tables before w after writes in
     let reads =
     subst (λ (l : List Acceleration). Reads file (lent_with b all) core.answer (lent_with x l)) (take-append-drop core.fill all) (read.reads all e) in (
@@ -65,5 +63,5 @@ core_rewrites {end} {file} {b} {core} {x} {before} {w} {after} read e long roomy
       },
     )
 
-pub rewrites_numbered : {end : End} {file before : List ℕ} {r : Rewritten} {after : List ℕ} → Rewrites end file before r after → Numbered file r.answer.number
+pub rewrites_numbered : {end : End} {file before : List ℕ} {r : Made} {after : List ℕ} → Rewrites end file before r after → Numbered file r.answer.number
 rewrites_numbered h = reads-numbered h.enough h.reads

@@ -5,9 +5,9 @@ use Rattle.types.specs.declared.Written.{Written}
 use Rattle.law.specs.Lines.{End}
 use Rattle.law.specs.Tables.{Lent, enough_lent}
 use Rattle.law.specs.Calls.{Reads, Writes}
-use Rattle.rewritten.specs.declared.Rewritten.{Rewritten}
+use Rattle.listed.specs.declared.Made.{Made}
 
-pub record Rewrites (end : End) (file before : List ℕ) (r : Rewritten) (after : List ℕ) : Type 0 where
+pub record Rewrites (end : End) (file before : List ℕ) (r : Made) (after : List ℕ) : Type 0 where
   pub lent : Lent
   pub left : Lent
   pub enough : enough_lent lent ≡ true

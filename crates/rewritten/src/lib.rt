@@ -2,106 +2,73 @@
 // outputs.
 #![tactic(auto)]
 
+ghost use Rattle.std.specs.Prelude.{IfOk};
 ghost use Rattle.io.specs.Counts.{IsPrefixLen};
 ghost use Rattle.listed.specs.Printed.{Says};
 ghost use Rattle.law.specs.Calls.{end_of};
 ghost use Rattle.rewritten.specs.Rewrites.{Rewrites};
 
-use listed::{Input, MOST_READ, Printed};
+use listed::{Failure, Made, Printed, Room};
+use std::io;
 use std::io::Read;
-use types::{Answer, ENTRIES, KEPT, LINES, MOST_ACCELERATIONS, MOST_PLAYERS, MOST_TEXT};
 
 // The longest file that the writer can produce, with CR LF.
 pub const MOST_WRITTEN: usize = 61887;
 
-// What the reading answered, and how many bytes were written: none where the file is refused.
-#[derive(Clone, Copy)]
-pub struct Rewritten {
-    pub answer: Answer,
-    pub length: usize,
-}
-
 // The bytes of a file in the writer's spelling, with CR LF or with CR alone, from the first byte of `out` on. The answer of a refusal is no reading, so that
 // nothing is written of it.
-pub fn rewrite_file(file: &[u8], cr_alone: bool, out: &mut [u8; MOST_WRITTEN]) -> Rewritten
+pub fn rewrite_file(file: &[u8], cr_alone: bool, out: &mut [u8; MOST_WRITTEN]) -> Made
     ensures prefix_len { IsPrefixLen result.length out.new }
     ensures rewrites { Rewrites (end_of cr_alone) file.now out.old result out.new }
 {
-    let mut starts = [0u32; MOST_PLAYERS];
-    let mut points = [0u32; MOST_PLAYERS];
-    let mut ranks = [0u32; MOST_PLAYERS];
-    let mut kept = [0u8; KEPT];
-    let mut opponents = [0u32; ENTRIES];
-    let mut colours = [0u8; ENTRIES];
-    let mut results = [0u8; ENTRIES];
-    let mut text = [0u8; MOST_TEXT];
-    let mut lines = [0u32; LINES];
-    let core = reader::read_core(
-        file,
-        &mut starts,
-        &mut points,
-        &mut ranks,
-        &mut kept,
-        &mut opponents,
-        &mut colours,
-        &mut results,
-        &mut text,
-        &mut lines,
-        MOST_ACCELERATIONS,
-    );
+    let mut room = Room::new();
+    let core = room.read(file);
     let answer = core.answer;
-    let records = core.records;
     let written = writer::write_core(
         answer,
-        &starts,
-        &points,
-        &ranks,
-        &kept,
-        &opponents,
-        &colours,
-        &results,
-        &text,
-        records,
-        MOST_ACCELERATIONS,
+        &room.starts,
+        &room.points,
+        &room.ranks,
+        &room.kept,
+        &room.opponents,
+        &room.colours,
+        &room.results,
+        &room.text,
+        &core.records,
         cr_alone,
         out,
     );
-    Rewritten {
+    Made {
         answer,
         length: written.length,
     }
 }
 
 // A file in the writer's spelling, with CR LF or with CR alone, to an output. A refusal's line goes to the output for errors.
-pub fn print_rewritten(out: &impl Print, err: &impl Print, file: &[u8], cr_alone: bool) -> Printed
-    ensures { Says result file.now }
+pub fn print_rewritten(
+    out: &impl Print,
+    err: &impl Print,
+    file: &[u8],
+    cr_alone: bool,
+) -> io::Result<Printed>
+    ensures { IfOk result (λ p. Says p file.now) }
 {
     let mut bytes = [0u8; MOST_WRITTEN];
-    let done = rewrite_file(file, cr_alone, &mut bytes);
-    let answer = done.answer;
-    let n = done.length;
-    if answer.number == 0 {
-        if let Err(e) = out.write_all(&bytes[..n]) {
-            return Printed::Lost(e);
-        }
-        return Printed::Accepted;
+    let made = rewrite_file(file, cr_alone, &mut bytes);
+    if made.answer.number == 0 {
+        out.write_all(&bytes[..made.length])?;
+        return Ok(Printed::Accepted);
     }
-    if let Err(e) = listed::print_refused(err, answer) {
-        return Printed::Lost(e);
-    }
-    Printed::Refused
+    listed::print_refused(err, made.answer)?;
+    Ok(Printed::Refused)
 }
 
-// The same, of what a reader gives. Where it cannot be read, nothing is written.
+// The same, of what a reader gives.
 pub fn print_input(
     input: &mut impl Read,
     out: &impl Print,
     err: &impl Print,
     cr_alone: bool,
-) -> Printed {
-    let mut file = [0u8; MOST_READ];
-    match listed::read_input(input, &mut file) {
-        Input::Bytes(n) => print_rewritten(out, err, &file[..n], cr_alone),
-        Input::Failed(e) => Printed::Unread(e),
-    }
+) -> Result<Printed, Failure> {
+    listed::print_read(input, |file| print_rewritten(out, err, file, cr_alone))
 }

@@ -6,40 +6,19 @@ use mathlib.Core.List.{List, [], ◌∷◌}
 use Prim.Native.Nat.{ℕ}
 use Rattle.kit.specs.Lists.{all, between, conj, flat}
 use Rattle.kit.specs.Decides.{pair, to, when, keep}
-use Rattle.kit.proofs.Bools.{clash}
 use Rattle.law.specs.Sizes.{most_start, most_rank}
 use Rattle.law.specs.Columns.{is_blank, cells, else_blank}
 use Rattle.law.specs.Players.{Slot, PlayerLine, round_fields, every_round}
 use Rattle.law.proofs.FieldsRead.{number_of, the_number, points_of}
 use Rattle.law.proofs.RecordsRead.{is_kept, slots_of, make_player, player_of}
-use Rattle.fields.proofs.Cases.{standing, stands_is, is_standing}
+use Rattle.fields.specs.Said.{Said, says, refuses, or_bad_field}
+use Rattle.fields.proofs.Keys.{and-false}
+use Rattle.rows.proofs.PlayerRounds.{to_some, to_none}
 use Rattle.rows.specs.declared.Slots.{Slots}
 use Rattle.rows.specs.declared.Row.{Row}
-use Rattle.rows.specs.Rows.{rounds_in, no_slots, the_slots, SlotsSay, no_row, the_row, RowSays}
-
-no_slots_lem : (o : Option (List Slot)) (r : Slots) → SlotsSay o r → r.good ≡ false → o ≡ none
-unfolding the_slots
-no_slots_lem none r s e = refl
-no_slots_lem (some l) r s e = clash (sym e ∙ ap (λ (x : Slots). x.good) (stands_is (λ (x : Slots). x.good) no_slots the_slots (some l) r s))
-
-some-slots : (o : Option (List Slot)) (r : Slots) → SlotsSay o r → r.good ≡ true → (l : List Slot) × ((o ≡ some l) × (r ≡ the_slots l))
-unfolding no_slots
-some-slots none r s e = clash (sym (ap (λ (x : Slots). x.good) (stands_is (λ (x : Slots). x.good) no_slots the_slots none r s)) ∙ e)
-some-slots (some l) r s e = (l, (refl, stands_is (λ (x : Slots). x.good) no_slots the_slots (some l) r s))
-
-row_none : (o : Option PlayerLine) → o ≡ none → {r : Row} → r ≡ no_row → RowSays o r
-unfolding no_row the_row
-row_none o e {r} n = is_standing (λ (x : Row). x.good) no_row the_row refl (λ _. refl) o r (n ∙ sym (ap (standing (λ (x : Row). x.good) no_row the_row) e))
-
-row_some : (o : Option PlayerLine) (p : PlayerLine) → o ≡ some p → {r : Row} → r ≡ the_row p → RowSays o r
-unfolding no_row the_row
-row_some o p e {r} n = is_standing (λ (x : Row). x.good) no_row the_row refl (λ _. refl) o r (n ∙ sym (ap (standing (λ (x : Row). x.good) no_row the_row) e))
+use Rattle.rows.specs.Rows.{rounds_in, the_slots, the_row}
 
 -- ---- what is asked of the rounds' columns may be asked first or last
-and-false : (b : Bool) → b && false ≡ false
-and-false true = refl
-and-false false = refl
-
 none-when : {A : Type 0} (b : Bool) → ◌≡◌ {A = Option A} (when b none) none
 none-when true = refl
 none-when false = refl
@@ -69,50 +48,50 @@ module _ (row : List ℕ) where
   abbrev gaps : Bool
   gaps = conj (all is_blank (cells row 3 1) ∷ all is_blank (cells row 8 1) ∷ all is_blank (cells row 79 1) ∷ all is_blank (cells row 84 1) ∷ [])
 
-  player_by : (else kept : Bool) (start points rank : Option ℕ) (slots : Option (List Slot)) → gaps ≡ else → is_kept (cells row 9 70) ≡ kept
+  player_by : (clean : Bool) (start points rank : Option ℕ) (slots : Option (List Slot)) → gaps && is_kept (cells row 9 70) ≡ clean
       → start_in ≡ start → points_of (cells row 80 4) ≡ points → rank_in ≡ rank → rounds_in row ≡ slots
-      → player_of row ≡ when (else && kept) (to (make_player row) (pair (pair start points) (pair rank slots)))
-  player_by v k s p r l v-is k_is s-is p-is r-is l-is =
+      → player_of row ≡ when clean (to (make_player row) (pair (pair start points) (pair rank slots)))
+  player_by v s p r l v-is s-is p-is r-is l-is =
       asked_last (make_player row) (all is_blank (cells row 3 1)) (all is_blank (cells row 8 1)) (all is_blank (cells row 79 1)) (all is_blank (cells row 84 1)) (else_blank 90 (flat round_fields every_round) row) (is_kept (cells row 9 70)) (pair start_in (points_of (cells row 80 4))) rank_in (slots_of row)
-      ∙ ap₂ (λ (a b : Bool). when (a && b) (to (make_player row) (pair (pair start_in (points_of (cells row 80 4))) (pair rank_in (rounds_in row))))) v-is k_is
-      ∙ ap₂ (λ (a b : Option ℕ). when (v && k) (to (make_player row) (pair (pair a b) (pair rank_in (rounds_in row))))) s-is p-is
-      ∙ ap₂ (λ (a : Option ℕ) (b : Option (List Slot)). when (v && k) (to (make_player row) (pair (pair s p) (pair a b)))) r-is l-is
+      ∙ ap (λ (a : Bool). when a (to (make_player row) (pair (pair start_in (points_of (cells row 80 4))) (pair rank_in (rounds_in row))))) v-is
+      ∙ ap₂ (λ (a b : Option ℕ). when v (to (make_player row) (pair (pair a b) (pair rank_in (rounds_in row))))) s-is p-is
+      ∙ ap₂ (λ (a : Option ℕ) (b : Option (List Slot)). when v (to (make_player row) (pair (pair s p) (pair a b)))) r-is l-is
 
   -- at each answer: what was read so far
+  abbrev row_said : Option PlayerLine → Said Row
+  row_said o = or_bad_field (to the_row o)
+
   module _ (kept : List ℕ) (kept_is : kept ≡ cells row 9 70) where
-    pub else_bad : gaps ≡ false → {r : Row} → r ≡ no_row → RowSays (player_of row) r
-    else_bad v = row_none (player_of row) (player_by false _ _ _ _ _ v refl refl refl refl refl)
+    clean-by : (v k : Bool) → gaps ≡ v → is_kept kept ≡ k → gaps && is_kept (cells row 9 70) ≡ v && k
+    clean-by v k v-is k_is = ap₂ (λ (a b : Bool). a && b) v-is (ap is_kept (sym kept_is) ∙ k_is)
+
+    pub else_bad : gaps ≡ false → refuses 7 ≡ row_said (player_of row)
+    else_bad v = sym (ap row_said (player_by false _ _ _ _ (clean-by false _ v refl) refl refl refl refl))
 
     module _ (v : gaps ≡ true) where
-      pub kept_bad : is_kept kept ≡ false → {r : Row} → r ≡ no_row → RowSays (player_of row) r
-      kept_bad k = row_none (player_of row) (player_by true false _ _ _ _ v (ap is_kept (sym kept_is) ∙ k) refl refl refl refl)
+      pub kept_bad : is_kept kept ≡ false → refuses 7 ≡ row_said (player_of row)
+      kept_bad k = sym (ap row_said (player_by false _ _ _ _ (clean-by true false v k) refl refl refl refl))
 
       module _ (k : is_kept kept ≡ true) where
-        k_is : is_kept (cells row 9 70) ≡ true
-        k_is = ap is_kept (sym kept_is) ∙ k
-
-        pub start_bad : start_in ≡ none → {r : Row} → r ≡ no_row → RowSays (player_of row) r
-        start_bad s = row_none (player_of row) (player_by true true none _ _ _ v k_is s refl refl refl)
+        pub start_bad : start_in ≡ none → refuses 7 ≡ row_said (player_of row)
+        start_bad s = sym (ap row_said (player_by true none _ _ _ (clean-by true true v k) s refl refl refl))
 
         module _ (start : ℕ) (s : start_in ≡ some start) where
-          pub points_bad : points_of (cells row 80 4) ≡ none → {r : Row} → r ≡ no_row → RowSays (player_of row) r
-          points_bad p = row_none (player_of row) (player_by true true (some start) none _ _ v k_is s p refl refl)
+          pub points_bad : points_of (cells row 80 4) ≡ none → refuses 7 ≡ row_said (player_of row)
+          points_bad p = sym (ap row_said (player_by true (some start) none _ _ (clean-by true true v k) s p refl refl))
 
           module _ (points : ℕ) (p : points_of (cells row 80 4) ≡ some points) where
-            pub rank_bad : rank_in ≡ none → {r : Row} → r ≡ no_row → RowSays (player_of row) r
-            rank_bad r = row_none (player_of row) (player_by true true (some start) (some points) none _ v k_is s p r refl)
+            pub rank_bad : rank_in ≡ none → refuses 7 ≡ row_said (player_of row)
+            rank_bad r = sym (ap row_said (player_by true (some start) (some points) none _ (clean-by true true v k) s p r refl))
 
-            module _ (rank : ℕ) (r : rank_in ≡ some rank) (slots : Slots) (said : SlotsSay (rounds_in row) slots) where
-              pub slots_bad : slots.good ≡ false → {r : Row} → r ≡ no_row → RowSays (player_of row) r
-              slots_bad g = row_none (player_of row) (player_by true true (some start) (some points) (some rank) none v k_is s p r (no_slots_lem (rounds_in row) slots said g))
+            module _ (rank : ℕ) (r : rank_in ≡ some rank) where
+              pub slots_bad : to the_slots (rounds_in row) ≡ none → refuses 7 ≡ row_said (player_of row)
+              slots_bad l = sym (ap row_said (player_by true (some start) (some points) (some rank) none (clean-by true true v k) s p r (to_none the_slots (rounds_in row) l)))
 
-              pub row_good : slots.good ≡ true
-                  → RowSays (player_of row)
-                  (record { good = true; start = record { 0 = start }; rank = record { 0 = rank }; points = points; kept = kept; ids = slots.ids; colours = slots.colours; results = slots.results })
+              pub row_good : (slots : Slots) → to the_slots (rounds_in row) ≡ some slots
+                  → says (record { start = record { 0 = start }; rank = record { 0 = rank }; points = points; kept = kept; ids = slots.ids; colours = slots.colours; results = slots.results }) ≡ row_said (player_of row)
               unfolding the_row the_slots
-              row_good g =
-                  let l = some-slots (rounds_in row) slots said g in
-                  row_some (player_of row) _ (player_by true true (some start) (some points) (some rank) (some l.0) v k_is s p r l.1.0)
-                  (ap₂ (λ (m : List ℕ) (x : Slots).
-                  record { good = true; start = record { 0 = start }; rank = record { 0 = rank }; points = points; kept = m; ids = x.ids; colours = x.colours; results = x.results })
-                  kept_is l.1.1)
+              row_good slots slots_are =
+                  let l = to_some the_slots (rounds_in row) slots slots_are in
+                  ap₂ (λ (m : List ℕ) (x : Slots). says (record { start = record { 0 = start }; rank = record { 0 = rank }; points = points; kept = m; ids = x.ids; colours = x.colours; results = x.results })) kept_is (sym l.1.1)
+                  ∙ sym (ap row_said (player_by true (some start) (some points) (some rank) (some l.0) (clean-by true true v k) s p r l.1.0))

@@ -22,14 +22,28 @@ use Rattle.law.specs.Entries.{no_entry}
 use Rattle.law.proofs.FieldsRead as law
 use Rattle.law.proofs.RecordsRead.{is_used, slot_of}
 use Rattle.join.specs.Store.{raw_cell}
-use Rattle.fields.specs.Said.{Said, says, refuses, or_bad_field}
+use Rattle.std.specs.Prelude.{Result}
+use Rattle.std.specs.Result.{IsErrAnd}
+use Rattle.types.specs.declared.Fault.{Fault}
+use Rattle.types.specs.Faults.{number_of}
+use Rattle.fields.specs.Said.{Said, says, refuses, said, or_bad_field}
+use Rattle.fields.specs.Fields.{or_blank}
+use Rattle.fields.proofs.Cases.{is_bad, handed_on}
 use Rattle.fields.proofs.Columns.{get_d_any, cells-cons, cells_one, cells-four}
 use Rattle.fields.proofs.Turns.{and-true}
 use Rattle.fields.proofs.Fours.{number-not-blank}
-use Rattle.fields.proofs.Cases.{standing, is_standing}
 use Rattle.kept_columns.proofs.KeptColumns.{gap}
+use Rattle.rows.specs.declared.Slot.{Slot as Stored}
 use Rattle.rows.specs.declared.Slots.{Slots}
-use Rattle.rows.specs.Rows.{rounds_in, bye, no_slots, the_slots, SlotsSay, ids_of, colours_of, results_of}
+use Rattle.rows.specs.Rows.{rounds_in, as_slot, stored, bye, the_slots, ids_of, colours_of, results_of}
+
+-- ---- the exit of a `?`: a fault that is handed on is 7
+module _ {B : Type 0} (r : Result B Fault) (e : Fault) (handed : IsErrAnd r (λ d. d ≡ e)) where
+  pub refused_on : {A : Type 0} (o : Option A) → refuses (number_of e) ≡ or_bad_field o → said r ≡ refuses 7
+  refused_on o p = handed_on r e handed o none p (λ _. refl)
+
+  pub refused_number : (o : law.Number) → refuses (number_of e) ≡ or_blank o → said r ≡ refuses 7
+  refused_number o p = handed_on {A = Option ℕ} r e handed none none (p ∙ ap or_blank (is_bad o (sym p))) (λ _. refl)
 
 abbrev pub slot_from : ℕ → ℕ → ℕ → Bool → Slot
 slot_from i c r u = record { id = i; colour = c; result = r; used = u }
@@ -50,7 +64,8 @@ unfolding normal
 raw_game i x y u h e = rw (e, ne_eqb i 0 h) refl
 
 -- with what would be held of its result beside an opponent
-pub bye_is : (x y z : ℕ) → among y slot_results ≡ true → z ≡ blank_as unknown_result y → record { id = 0; colour = blank_as (code "-") x; result = cond (eqb z unknown_result) (code "Z") z } ≡ normal (bye x y)
+pub bye_is : (x y z : ℕ) → among y slot_results ≡ true → z ≡ blank_as unknown_result y
+    → ◌≡◌ {A = Stored} (record { id = 0; colour = blank_as (code "-") x; result = cond (eqb z unknown_result) (code "Z") z }) (as_slot (normal (bye x y)))
 unfolding normal
 bye_is x y z y-in z-is = λ i. record { id = 0; colour = blank_as (code "-") x; result = (ap (λ (c : ℕ). cond (eqb c unknown_result) (code "Z") c) z-is ∙ go (is_blank y)) i }
   where
@@ -88,9 +103,6 @@ module _ (row : List ℕ) (r : ℕ) (h : 1 ≤ r) where
       ∙ ap (λ (q : Option ℕ). when (c && d) (to (λ i. slot_from i x y (is_used row r)) q)) (ap (λ (l : List ℕ). law.number_or0 (law.number_of l)) id-there ∙ o_is)
 
 -- ---- the same by the line's bytes, of a line that has them all
-pub two_tests : (a b : Bool) → a && b ≡ a && (b && true)
-two_tests a b = ap (λ (v : Bool). a && v) (sym (and-true b))
-
 abbrev pub id_bytes : List ℕ → ℕ → List ℕ
 id_bytes row r = get_or row (81 + 10 * r) 0 ∷ get_or row (81 + 10 * r + 1) 0 ∷ get_or row (81 + 10 * r + 2) 0 ∷ get_or row (81 + 10 * r + 3) 0 ∷ []
 
@@ -116,41 +128,45 @@ module _ (row : List ℕ) (r : ℕ) (h : 1 ≤ r) (long : 89 + 10 * r ≤ length
       (gap row (81 + 10 * r + 5) (omega arith)) (gap row (81 + 10 * r + 7) (omega arith))
 
   -- at each answer: what was read so far
-  abbrev stored : Option Slot → Said Entry
-  stored o = or_bad_field (to raw_cell o)
+  abbrev slot_said : Option Slot → Said Stored
+  slot_said o = or_bad_field (to stored o)
 
-  pub colour_bad : among (get_or row (81 + 10 * r + 5) 0) slot_colours ≡ false → ◌≡◌ {A = Said Entry} (refuses 7) (stored (slot_of row r))
-  colour_bad e = sym (ap stored (slot_read _ false _ _ refl e refl refl))
+  pub colour_bad : among (get_or row (81 + 10 * r + 5) 0) slot_colours ≡ false → ◌≡◌ {A = Said Stored} (refuses 7) (slot_said (slot_of row r))
+  colour_bad e = sym (ap slot_said (slot_read _ false _ _ refl e refl refl))
 
   module _ (y : ℕ) (y-is : y ≡ capital (get_or row (81 + 10 * r + 7) 0)) (c-is : among (get_or row (81 + 10 * r + 5) 0) slot_colours ≡ true) where
-    pub result_bad : among y slot_results ≡ false → ◌≡◌ {A = Said Entry} (refuses 7) (stored (slot_of row r))
-    result_bad e = sym (ap stored (slot_read y true false _ y-is c-is e refl))
+    pub result_bad : among y slot_results ≡ false → ◌≡◌ {A = Said Stored} (refuses 7) (slot_said (slot_of row r))
+    result_bad e = sym (ap slot_said (slot_read y true false _ y-is c-is e refl))
 
     module _ (d-is : among y slot_results ≡ true) where
-      by_id : (n : law.Number) → law.number_of (id_bytes row r) ≡ n → stored (slot_of row r) ≡ stored (to (λ i. slot_from i (get_or row (81 + 10 * r + 5) 0) y (is_used row r)) (law.number_or0 n))
-      by_id n e = ap stored (slot_read y true true (law.number_or0 n) y-is c-is d-is (ap law.number_or0 e))
+      by_id : (n : law.Number) → law.number_of (id_bytes row r) ≡ n → slot_said (slot_of row r) ≡ slot_said (to (λ i. slot_from i (get_or row (81 + 10 * r + 5) 0) y (is_used row r)) (law.number_or0 n))
+      by_id n e = ap slot_said (slot_read y true true (law.number_or0 n) y-is c-is d-is (ap law.number_or0 e))
 
-      pub id_bad : law.number_of (id_bytes row r) ≡ law.bad → ◌≡◌ {A = Said Entry} (refuses 7) (stored (slot_of row r))
+      pub id_bad : law.number_of (id_bytes row r) ≡ law.bad → ◌≡◌ {A = Said Stored} (refuses 7) (slot_said (slot_of row r))
       id_bad e = sym (by_id law.bad e)
 
       module _ (e : law.number_of (id_bytes row r) ≡ law.none-there) (u : Bool) (u_is : u ≡ not (all is_blank (get_or row (81 + 10 * r + 5) 0 ∷ get_or row (81 + 10 * r + 7) 0 ∷ []))) where
-        pub wholly_blank : u ≡ false → says no_entry ≡ stored (slot_of row r)
-        wholly_blank q = ap says (raw_none 0 (get_or row (81 + 10 * r + 5) 0) y (is_used row r) (used_else e ∙ sym u_is ∙ q)) ∙ sym (by_id law.none-there e)
+        pub wholly_blank : u ≡ false → says (as_slot no_entry) ≡ slot_said (slot_of row r)
+        wholly_blank q = ap (λ (e : Entry). says (as_slot e)) (raw_none 0 (get_or row (81 + 10 * r + 5) 0) y (is_used row r) (used_else e ∙ sym u_is ∙ q)) ∙ sym (by_id law.none-there e)
 
-        pub id-blank : u ≡ true → says (normal (bye (get_or row (81 + 10 * r + 5) 0) y)) ≡ stored (slot_of row r)
-        id-blank q = ap says (raw_bye 0 (get_or row (81 + 10 * r + 5) 0) y (is_used row r) refl (used_else e ∙ sym u_is ∙ q)) ∙ sym (by_id law.none-there e)
+        pub id-blank : u ≡ true → says (as_slot (normal (bye (get_or row (81 + 10 * r + 5) 0) y))) ≡ slot_said (slot_of row r)
+        id-blank q = ap (λ (e : Entry). says (as_slot e)) (raw_bye 0 (get_or row (81 + 10 * r + 5) 0) y (is_used row r) refl (used_else e ∙ sym u_is ∙ q)) ∙ sym (by_id law.none-there e)
 
       module _ (id : ℕ) (e : law.number_of (id_bytes row r) ≡ law.value id) where
-        pub id-zero : id ≡ 0 → says (normal (bye (get_or row (81 + 10 * r + 5) 0) y)) ≡ stored (slot_of row r)
-        id-zero z = ap says (raw_bye id (get_or row (81 + 10 * r + 5) 0) y (is_used row r) z (used_id id e)) ∙ sym (by_id (law.value id) e)
+        pub id-zero : id ≡ 0 → says (as_slot (normal (bye (get_or row (81 + 10 * r + 5) 0) y))) ≡ slot_said (slot_of row r)
+        id-zero z = ap (λ (e : Entry). says (as_slot e)) (raw_bye id (get_or row (81 + 10 * r + 5) 0) y (is_used row r) z (used_id id e)) ∙ sym (by_id (law.value id) e)
 
-        pub id_other : (id ≡ 0 → ⊥) → says (record { id = id; colour = get_or row (81 + 10 * r + 5) 0; result = blank_as unknown_result y }) ≡ stored (slot_of row r)
-        id_other h = ap says (raw_game id (get_or row (81 + 10 * r + 5) 0) y (is_used row r) h (used_id id e)) ∙ sym (by_id (law.value id) e)
+        pub id_other : (id ≡ 0 → ⊥) → says (record { id = id; colour = get_or row (81 + 10 * r + 5) 0; result = blank_as unknown_result y }) ≡ slot_said (slot_of row r)
+        id_other h = ap (λ (e : Entry). says (as_slot e)) (raw_game id (get_or row (81 + 10 * r + 5) 0) y (is_used row r) h (used_id id e)) ∙ sym (by_id (law.value id) e)
 
 -- ---- the columns between the rounds' fields
-pub two_columns : (row : List ℕ) (i : ℕ) → all is_blank (cells row i 2) ≡ all is_blank (cells row i 1) && all is_blank (cells row (i + 1) 1)
+two_columns : (row : List ℕ) (i : ℕ) → all is_blank (cells row i 2) ≡ all is_blank (cells row i 1) && all is_blank (cells row (i + 1) 1)
 two_columns row i =
     ap (all is_blank) (cells-cons row i 1) ∙ ap₂ (λ (x y : Bool). x && y) (sym (ap (all is_blank) (cells_one row i) ∙ and-true (is_blank (get_or row i blank)))) (ap (λ (j : ℕ). all is_blank (cells row j 1)) (sym (add-one i)))
+
+pub pair_is : (row : List ℕ) (i : ℕ) → i + 1 < length row → is_blank (get_or row i 0) && is_blank (get_or row (i + 1) 0) ≡ all is_blank (cells row i 2)
+pair_is row i l =
+    sym (two_columns row i ∙ ap (λ (v : Bool). v && all is_blank (cells row (i + 1) 1)) (gap row i (omega (arith, l))) ∙ ap (λ (v : Bool). is_blank (get_or row i 0) && v) (gap row (i + 1) l))
 
 abbrev pub gaps_blank : List ℕ → ℕ → Bool
 gaps_blank row i = conj (all is_blank (cells row (89 + 10 * i) 2) ∷ all is_blank (cells row (89 + 10 * i + 6) 1) ∷ all is_blank (cells row (89 + 10 * i + 8) 1) ∷ [])
@@ -179,11 +195,11 @@ unfolding flat
 between-end row i e = ap (λ (k : ℕ). else_blank (90 + 10 * k) (flat round_fields (from (k + 1) (20 - k))) row) e
 
 -- ---- the rounds, of which the first i are read
-to_some : {A B : Type 0} (g : A → B) (o : Option A) (b : B) → to g o ≡ some b → (a : A) × ((o ≡ some a) × (g a ≡ b))
+pub to_some : {A B : Type 0} (g : A → B) (o : Option A) (b : B) → to g o ≡ some b → (a : A) × ((o ≡ some a) × (g a ≡ b))
 to_some g (some a) b e = let u : g a ≡ b = cc in (a, (refl, u))
 to_some g none b e = absurd (let z : ◌≡◌ {A = ℕ} 0 1 = cc in omega arith)
 
-to_none : {A B : Type 0} (g : A → B) (o : Option A) → to g o ≡ none → o ≡ none
+pub to_none : {A B : Type 0} (g : A → B) (o : Option A) → to g o ≡ none → o ≡ none
 to_none g none e = refl
 to_none g (some a) e = absurd (let z : ◌≡◌ {A = ℕ} 0 1 = cc in omega arith)
 
@@ -200,12 +216,8 @@ map-replicate : {A B : Type 0} (g : A → B) (n : ℕ) (a : A) → map g (replic
 map-replicate g zero a = refl
 map-replicate {B = B} g (suc n) a = ap (λ (l : List B). g a ∷ l) (map-replicate g n a)
 
-abbrev as_slots : Option (List Slot) → Slots
-as_slots o = standing (λ (x : Slots). x.good) no_slots the_slots o
-
-slots-are : (o : Option (List Slot)) (r : Slots) → r ≡ as_slots o → SlotsSay o r
-unfolding no_slots the_slots
-slots-are o r e = is_standing (λ (x : Slots). x.good) no_slots the_slots refl (λ _. refl) o r e
+abbrev slots_said : Option (List Slot) → Said Slots
+slots_said o = or_bad_field (to the_slots o)
 
 -- those that are left, where what stands between them is blank
 abbrev pub left : List ℕ → ℕ → Bool
@@ -235,16 +247,16 @@ module _ (row : List ℕ) (i : ℕ) (ids colours results : List ℕ) (f : Read r
         → rounds_in row ≡ to (λ (l : List Slot). f.slots ++ l) (when (v && left row (i + 1)) (cons (slot_of row (i + 1)) (each (slot_of row) (from (i + 1 + 1) (20 - (i + 1))))))
     turn v e = f.rest ∙ ap₂ (λ (b : Bool) (o : Option (List Slot)). to (λ (l : List Slot). f.slots ++ l) (when b o)) (between_turn row i h v e) next
 
-    pub gaps_bad : gaps_blank row i ≡ false → {r : Slots} → r ≡ no_slots → SlotsSay (rounds_in row) r
-    gaps_bad e {r} n = slots-are (rounds_in row) r (n ∙ ap as_slots (sym (turn false e)))
+    pub gaps_bad : gaps_blank row i ≡ false → refuses 7 ≡ slots_said (rounds_in row)
+    gaps_bad e = sym (ap slots_said (turn false e))
 
     module _ (g : gaps_blank row i ≡ true) where
       with_slot : (o : Option Slot) → slot_of row (i + 1) ≡ o
           → rounds_in row ≡ to (λ (l : List Slot). f.slots ++ l) (when (left row (i + 1)) (cons o (each (slot_of row) (from (i + 1 + 1) (20 - (i + 1))))))
       with_slot o e = turn true g ∙ ap (λ (x : Option Slot). to (λ (l : List Slot). f.slots ++ l) (when (left row (i + 1)) (cons x (each (slot_of row) (from (i + 1 + 1) (20 - (i + 1))))))) e
 
-      pub round_bad : to raw_cell (slot_of row (i + 1)) ≡ none → {r : Slots} → r ≡ no_slots → SlotsSay (rounds_in row) r
-      round_bad e {r} n = slots-are (rounds_in row) r (n ∙ ap as_slots (sym (with_slot none (to_none raw_cell (slot_of row (i + 1)) e) ∙ go (left row (i + 1)))))
+      pub round_bad : slot_of row (i + 1) ≡ none → refuses 7 ≡ slots_said (rounds_in row)
+      round_bad e = sym (ap slots_said (with_slot none e ∙ go (left row (i + 1))))
         where
           go : (b : Bool) → to (λ (l : List Slot). f.slots ++ l) (when b none) ≡ none
           go true = refl
@@ -266,10 +278,10 @@ module _ (row : List ℕ) (i : ℕ) (ids colours results : List ℕ) (f : Read r
           go true none = refl
           go true (some l) = ap some (sym (append_snoc f.slots s l))
 
-      pub round_more : (c : Entry) → to raw_cell (slot_of row (i + 1)) ≡ some c → Read row (i + 1) (set ids i c.id) (set colours i c.colour) (set results i c.result)
+      pub round_more : (c : Stored) → to stored (slot_of row (i + 1)) ≡ some c → Read row (i + 1) (set ids i c.id) (set colours i c.colour) (set results i c.result)
       round_more c e =
-          let s = to_some raw_cell (slot_of row (i + 1)) c e in
-          subst (λ (x : Entry). Read row (i + 1) (set ids i x.id) (set colours i x.colour) (set results i x.result)) s.1.1 (read_more s.0 s.1.0)
+          let s = to_some stored (slot_of row (i + 1)) c e in
+          subst (λ (x : Stored). Read row (i + 1) (set ids i x.id) (set colours i x.colour) (set results i x.result)) s.1.1 (read_more s.0 s.1.0)
 
   column_read : (g : Entry → ℕ) → g no_entry ≡ 0 → (l : List ℕ) → l ≡ map (λ (s : Slot). g (raw_cell s)) f.slots ++ replicate (20 - i) 0
       → l ≡ map g (map raw_cell (f.slots ++ replicate (20 - i) no_slot))
@@ -280,17 +292,15 @@ module _ (row : List ℕ) (i : ℕ) (ids colours results : List ℕ) (f : Read r
       ∙ sym (map-map g raw_cell (f.slots ++ replicate (20 - i) no_slot))
 
   -- the others are wholly blank
-  pub end_bad : left row i ≡ false → {r : Slots} → r ≡ no_slots → SlotsSay (rounds_in row) r
-  end_bad e {r} n =
-      slots-are (rounds_in row) r
-      (n ∙ ap as_slots (sym (f.rest ∙ ap (λ (b : Bool). to (λ (l : List Slot). f.slots ++ l) (when b (each (slot_of row) (from (i + 1) (20 - i))))) e)))
+  pub end_bad : left row i ≡ false → refuses 7 ≡ slots_said (rounds_in row)
+  end_bad e = sym (ap slots_said (f.rest ∙ ap (λ (b : Bool). to (λ (l : List Slot). f.slots ++ l) (when b (each (slot_of row) (from (i + 1) (20 - i))))) e))
 
   pub all_read : left row i ≡ true → each (slot_of row) (from (i + 1) (20 - i)) ≡ some (replicate (20 - i) no_slot)
-      → SlotsSay (rounds_in row) (record { good = true; ids = ids; colours = colours; results = results })
+      → says (record { ids = ids; colours = colours; results = results }) ≡ slots_said (rounds_in row)
   unfolding the_slots ids_of colours_of results_of
   all_read e others =
       let whole : rounds_in row ≡ some (f.slots ++ replicate (20 - i) no_slot) = f.rest ∙ ap₂ (λ (b : Bool) (o : Option (List Slot)). to (λ (l : List Slot). f.slots ++ l) (when b o)) e others in
       let a = column_read (λ (c : Entry). c.id) refl ids f.ids_are in
       let b = column_read (λ (c : Entry). c.colour) refl colours f.colours_are in
       let d = column_read (λ (c : Entry). c.result) refl results f.results_are in
-      slots-are (rounds_in row) (record { good = true; ids = ids; colours = colours; results = results }) ((λ k. record { good = true; ids = a k; colours = b k; results = d k }) ∙ ap as_slots (sym whole))
+      (λ k. says (record { ids = a k; colours = b k; results = d k })) ∙ ap slots_said (sym whole)

@@ -1,23 +1,17 @@
 -- A 001 line and the same with blanks at its end: the same player. Assumes nothing.
-use mathlib.Core.Path.{◌≡◌, refl, sym, ap, ap₂, subst, ◌∙◌}
+use mathlib.Core.Path.{◌≡◌, refl, sym, ap, ap₂, ◌∙◌}
 use mathlib.Core.Bool.{Bool, ◌&&◌, not}
-use mathlib.Core.Option.{Option}
 use mathlib.Core.List.{List, [], ◌∷◌, ◌++◌}
-use Prim.Native.Nat.{ℕ, suc, ◌+◌, ◌-◌, ◌<◌}
-use native.Mathlib.Numerals.{add-one}
-use native.Mathlib.Omega.{arith}
-use lib.ListN.{length, get_or, take, set, replicate}
-use lib.Seq.{length-take-le, take-suc, take_all, set_at, append_snoc}
+use Prim.Native.Nat.{ℕ, suc, ◌-◌}
+use lib.ListN.{replicate}
 use Rattle.kit.specs.Lists.{all, among, between}
 use Rattle.kit.specs.Decides.{pair, to, when, keep, each}
 use Rattle.law.specs.Sizes.{most_start, most_rank}
 use Rattle.law.specs.Columns.{Field, blank, is_blank, col, part, width, column, else_blank, after_code}
-use Rattle.law.specs.Players.{Slot, PlayerLine, id_field, entry_colour_column, result_column, slot_colours, slot_results, capital, kept_field, start_field, points_field, rank_field, player_fields, every_round}
+use Rattle.law.specs.Players.{Slot, id_field, entry_colour_column, result_column, slot_colours, slot_results, capital, kept_field, start_field, points_field, rank_field, player_fields, every_round}
 use Rattle.law.proofs.ColumnLaws.{drop-blank-same, cells-blanks, get_or_blanks}
 use Rattle.law.proofs.FieldsRead.{number_of, the_number, number_or0, points_of}
 use Rattle.law.proofs.RecordsRead.{is_kept, is_used, slot_of, player_of}
-use Rattle.rows.specs.declared.Row.{Row}
-use Rattle.rows.specs.Rows.{RowSays}
 
 module _ (l : List ℕ) (k : ℕ) where
   else_same : (c : ℕ) (fs : List Field) → else_blank c fs (l ++ replicate k blank) ≡ else_blank c fs l
@@ -48,22 +42,9 @@ module _ (l : List ℕ) (k : ℕ) where
       (pair (keep (between 1 most_start) (the_number (number_of (part_same start_field i)))) (points_of (part_same points_field i)))
       (pair (keep (between 1 most_rank) (the_number (number_of (part_same rank_field i)))) (each (λ (r : ℕ). slot_same r i) every_round))))
 
--- the kept columns of a line are those of the same with blanks
-pub kept_wide : (line wide : List ℕ) (k : ℕ) → wide ≡ line ++ replicate k blank → {kept : List ℕ} → kept ≡ part kept_field line → kept ≡ part kept_field wide
-kept_wide line wide k e h = h ∙ sym (part_same line k kept_field) ∙ ap (part kept_field) (sym e)
+module _ (line wide : List ℕ) (k : ℕ) (e : wide ≡ line ++ replicate k blank) where
+  pub kept_wide : part kept_field line ≡ part kept_field wide
+  kept_wide = sym (part_same line k kept_field) ∙ ap (part kept_field) (sym e)
 
-pub short-says : (line wide : List ℕ) (k : ℕ) → wide ≡ line ++ replicate k blank → {r : Row} → RowSays (player_of wide) r → RowSays (player_of line) r
-short-says line wide k e {r} s = subst (λ (o : Option PlayerLine). RowSays o r) (ap player_of e ∙ player-same line k) s
-
--- ---- an array of n blanks, of which the first i are a line's bytes
-pub widen_next : (line : List ℕ) (i n : ℕ) → i < length line → i < n → set (take i line ++ replicate (n - i) blank) i (get_or line i 0) ≡ take (i + 1) line ++ replicate (n - (i + 1)) blank
-widen_next line i n h g =
-    let e : n - i ≡ suc (n - (i + 1)) = omega arith in
-    let more : take (i + 1) line ≡ take i line ++ (get_or line i 0 ∷ []) = ap (λ (j : ℕ). take j line) (add-one i) ∙ take-suc line i 0 h in
-    ap (λ (j : ℕ). set (take i line ++ replicate j blank) i (get_or line i 0)) e
-    ∙ set_at (take i line) blank (replicate (n - (i + 1)) blank) (get_or line i 0) i (length-take-le i line (omega arith))
-    ∙ sym (append_snoc (take i line) (get_or line i 0) (replicate (n - (i + 1)) blank))
-    ∙ ap (λ (x : List ℕ). x ++ replicate (n - (i + 1)) blank) (sym more)
-
-pub widen_end : (line : List ℕ) (i n : ℕ) → i ≡ length line → take i line ++ replicate (n - i) blank ≡ line ++ replicate (n - length line) blank
-widen_end line i n e = ap₂ (λ (x : List ℕ) (j : ℕ). x ++ replicate (n - j) blank) (take_all i line (omega arith)) e
+  pub player_wide : player_of wide ≡ player_of line
+  player_wide = ap player_of e ∙ player-same line k

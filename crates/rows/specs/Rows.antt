@@ -1,5 +1,5 @@
--- What the readers of a 001 line answer: document 01's number and values for each case of their enum, and of the structs that stand in for one.
-use Rattle.std.specs.Prelude.{◌≡◌, Bool, true, false, List, [], ◌∷◌, map, ℕ, ◌+◌, ◌*◌, ◌≤◌, ◌<◌, length, get_or, replicate}
+-- What the readers of a 001 line answer: a round, the rounds and the line as their structs hold them.
+use Rattle.std.specs.Prelude.{◌≡◌, Bool, true, List, [], ◌∷◌, map, ℕ, ◌+◌, ◌*◌, ◌≤◌, ◌<◌, length, get_or}
 use Rattle.std.proofs.Math.Option.{Option, some}
 use Rattle.kit.specs.Lists.{all, conj, among, flat}
 use Rattle.kit.specs.Decides.{to, when, keep}
@@ -9,11 +9,7 @@ use Rattle.law.specs.Players as law
 use Rattle.law.specs.Tournament.{Entry, blank_as}
 use Rattle.law.proofs.RecordsRead.{slots_of}
 use Rattle.join.specs.Store.{raw_cell, raw_cells}
-use Rattle.fields.specs.Said.{Said, says, refuses, Stands}
-use Rattle.rows.specs.declared.Letter.{Letter}
-use Rattle.rows.specs.declared.Letter.TheVariants as letter
 use Rattle.rows.specs.declared.Slot.{Slot}
-use Rattle.rows.specs.declared.Slot.TheVariants as slot
 use Rattle.rows.specs.declared.Slots.{Slots}
 use Rattle.rows.specs.declared.Row.{Row}
 
@@ -37,12 +33,7 @@ head_else_blank line = conj (all is_blank (cells line 3 1) ∷ all is_blank (cel
 abbrev pub round_else_blank : List ℕ → ℕ → Bool
 round_else_blank line at = conj (all is_blank (cells line at 2) ∷ all is_blank (cells line (at + 6) 1) ∷ all is_blank (cells line (at + 8) 1) ∷ [])
 
--- a result
-abbrev pub letter_says : Letter → Said ℕ
-letter_says (letter.Value c) = says c
-letter_says letter.Bad = refuses 7
-
--- as it is held beside an opponent
+-- a result as it is held beside an opponent
 abbrev pub result_in : ℕ → Option ℕ
 result_in code = to (blank_as law.unknown_result) (keep (λ c. among c law.slot_results) (some (law.capital code)))
 
@@ -50,10 +41,12 @@ result_in code = to (blank_as law.unknown_result) (keep (λ c. among c law.slot_
 abbrev pub rounds_in : List ℕ → Option (List law.Slot)
 rounds_in line = when (else_blank (rounds_end 0 + 1) (flat law.round_fields law.every_round) line) (slots_of line)
 
--- a round as it is stored
-abbrev pub slot_says : Slot → Said Entry
-slot_says (slot.Read id colour result) = says (record { id = id; colour = colour; result = result })
-slot_says slot.Bad = refuses 7
+-- an entry as a round's columns are stored, and a round
+abbrev pub as_slot : Entry → Slot
+as_slot e = record { id = e.id; colour = e.colour; result = e.result }
+
+abbrev pub stored : law.Slot → Slot
+stored s = as_slot (raw_cell s)
 
 -- a round without an opponent, of which a byte is not blank
 abbrev pub bye : ℕ → ℕ → law.Slot
@@ -69,34 +62,13 @@ colours_of cells = map (λ (e : Entry). e.colour) cells
 unfoldable pub results_of : List Entry → List ℕ
 results_of cells = map (λ (e : Entry). e.result) cells
 
-unfoldable pub no_slots : Slots
-no_slots = record { good = false; ids = replicate most_rounds 0; colours = replicate most_rounds 0; results = replicate most_rounds 0 }
-
 unfoldable pub the_slots : List law.Slot → Slots
-the_slots slots = record { good = true; ids = ids_of (map raw_cell slots); colours = colours_of (map raw_cell slots); results = results_of (map raw_cell slots) }
-
--- a flag in place of an enum: off is 7
-abbrev pub SlotsSay : Option (List law.Slot) → Slots → Type 0
-SlotsSay o r = Stands (λ (x : Slots). x.good) no_slots the_slots o r
+the_slots slots = record { ids = ids_of (map raw_cell slots); colours = colours_of (map raw_cell slots); results = results_of (map raw_cell slots) }
 
 -- ---- the line
-unfoldable pub no_row : Row
-no_row =
-    record {
-      good = false;
-      start = record { 0 = 0 };
-      rank = record { 0 = 0 };
-      points = 0;
-      kept = replicate 70 0;
-      ids = replicate most_rounds 0;
-      colours = replicate most_rounds 0;
-      results = replicate most_rounds 0;
-    }
-
 unfoldable pub the_row : law.PlayerLine → Row
 the_row p =
     record {
-      good = true;
       start = record { 0 = p.start };
       rank = record { 0 = p.rank };
       points = p.points;
@@ -105,7 +77,3 @@ the_row p =
       colours = colours_of (raw_cells p);
       results = results_of (raw_cells p);
     }
-
--- a flag in place of an enum: off is 7
-abbrev pub RowSays : Option law.PlayerLine → Row → Type 0
-RowSays o r = Stands (λ (x : Row). x.good) no_row the_row o r

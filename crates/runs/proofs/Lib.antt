@@ -1,3 +1,3 @@
 pub mod Sound
-pub mod Room
+pub mod Players
 pub mod Going

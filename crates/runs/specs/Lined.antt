@@ -1,14 +1,15 @@
 -- A line of the file that has its terminator, and what the run over the lines leaves.
-use Rattle.std.specs.Prelude.{◌≡◌, cond, List, ℕ, ◌-◌, ◌≤◌, eqb, length}
+use Rattle.std.specs.Prelude.{◌≡◌, List, ℕ, ◌-◌, ◌≤◌, length, Result, Ok, Err}
 use Rattle.std.proofs.Math.Option.{some}
-use Rattle.types.specs.declared.Acceleration.{Acceleration}
+use Rattle.types.specs.declared.Refusal.{Refusal}
+use Rattle.types.specs.Faults.{number_of}
 use Rattle.law.specs.Sizes.{most_line}
 use Rattle.law.specs.Lines.{Line, End}
 use Rattle.law.specs.Items.{kind_of, passed_over}
 use Rattle.join.specs.Run.{Way, on, stop}
 use Rattle.join.specs.Store.{Nine, State, state}
+use Rattle.steps.specs.declared.counts.Counts.{Counts}
 use Rattle.steps.specs.Counts.{as_count}
-use Rattle.runs.specs.declared.Ran.{Ran}
 
 abbrev pub line_of : List ℕ → End → Line
 line_of text end = record { text = text; end = some end }
@@ -19,5 +20,6 @@ pub record Skipped (text : List ℕ) : Type 0 where
   pub passed : kind_of text ≡ passed_over
 
 -- what the lines left: the state after all of them, or the line that is refused, by what, and the state before it
-abbrev pub ran : Ran → List Acceleration → Nine → Way State (ℕ × ℕ)
-ran r rs t = cond (eqb r.fault 0) (on (state r.line.0 (as_count r.counts rs) t)) (stop (r.line.0, r.fault) (state (r.line.0 - 1) (as_count r.counts rs) t))
+abbrev pub ran : Result ℕ Refusal → Counts → Nine → Way State (ℕ × ℕ)
+ran (Ok n) c t = on (state n (as_count c) t)
+ran (Err r) c t = stop (r.line.0, number_of r.fault) (state (r.line.0 - 1) (as_count c) t)

@@ -3,6 +3,10 @@ use mathlib.Core.Path.{◌≡◌, refl, sym, ap, ap₂, ◌∙◌, subst}
 use mathlib.Core.Logic.{◌⊎◌, inl, inr}
 use mathlib.Core.Bool.{Bool, true, false, cond, ◌&&◌, ◌||◌, not}
 use mathlib.Core.Option.{Option, none, some}
+use Rattle.std.specs.Prelude.{Option as Maybe, Some, None, Result, Ok, Err}
+use Rattle.std.specs.Option.{is_some, unwrap_or}
+use Rattle.std.specs.Result.{MatchResult, IsOkAnd}
+use Rattle.std.proofs.lemmas.Option.{cond_some}
 use mathlib.Core.List.{List, [], ◌∷◌, ◌++◌}
 use Prim.Native.Nat.{ℕ, zero, suc, ◌+◌, ◌*◌, ◌<◌}
 use Prim.Native.Char.{code}
@@ -10,6 +14,7 @@ use native.Mathlib.Numerals.{add-one}
 use native.Mathlib.Omega.{arith}
 use lib.Dec.{eqb, ltb}
 use lib.ListN.{get_or, set, drop, replicate}
+use lib.Seq.{set-get_or}
 use borrow.Author.Tests.{eq-eqb, eqb-true, ltb-true}
 use Rattle.kit.specs.Lists.{all, among, is_empty, each_after}
 use Rattle.kit.specs.Decides.{to, when, keep, cons}
@@ -23,11 +28,12 @@ use Rattle.law.proofs.Values.{given_else}
 use Rattle.law.proofs.RecordsRead.{value_of, fill_or, filled_first, are_given, given_of}
 use Rattle.fields.proofs.Columns.{cells-cons}
 use Rattle.scorings.specs.declared.Given.{Given}
-use Rattle.scorings.specs.declared.Scored.{Scored}
-use Rattle.scorings.specs.Scoring.{letter_place, placed, differing, slots_in, seen_in, values_of, follower_of, none_given, some_given, GivenSays, none_scored, some_scored, ScoredSays}
-use Rattle.fields.specs.Said.{says, refuses, or_bad_field}
+use Rattle.scorings.specs.Scoring.{letter_place, placed, differing, slots_in, seen_in, values_of, follower_of, given_by, if_filled, slots_give, scored}
+use Rattle.types.specs.declared.Fault.{Fault}
+use Rattle.types.specs.Faults.{number_of}
+use Rattle.fields.specs.Said.{said, says, refuses, or_bad_field}
 use Rattle.fields.proofs.Keys.{one_of}
-use Rattle.fields.proofs.Cases.{never, standing, stands_is, is_standing}
+use Rattle.fields.proofs.Cases.{never, none_said}
 
 -- ---- letters
 pub letter_is : (c : ℕ) → among c letters ≡ ltb (letter_place c) 6
@@ -62,31 +68,65 @@ module _ (given : List (ℕ × ℕ)) (p : ℕ) where
 
   -- where a P or X is given, what it would follow does not matter
   values-set : (c : ℕ) → among c letters ≡ true → with_value (values_of given) (seen_in given) (letter_place c) p ≡ values_of ((c, p) ∷ given)
-  unfolding letter_place follower_of values_of seen_in scoring_of
+  unfolding letter_place values_of seen_in scoring_of
   values-set =
       each-letter (λ c. with_value (values_of given) (seen_in given) (letter_place c) p ≡ values_of ((c, p) ∷ given))
       (λ i. p ∷ own_draw given ∷ given_or defaults.loss (code "L") given ∷ given_or defaults.absent (code "A") given ∷ given_else (own_win given) p (code "P") given i ∷ given_or (own_draw given) (code "X") given ∷ [])
       (λ i. own_win given ∷ p ∷ given_or defaults.loss (code "L") given ∷ given_or defaults.absent (code "A") given ∷ given_or (own_win given) (code "P") given ∷ given_else (own_draw given) p (code "X") given i ∷ [])
       refl refl refl refl
 
-module _ (values : List ℕ) (seen : List Bool) (place points : ℕ) {f x : ℕ} (f-is : f ≡ follower_of place) (x-is : x ≡ cond (get_or seen f false) (get_or values f 0) points) where
-  with_value_lem : set (set values f x) place points ≡ with_value values seen place points
-  with_value_lem = ap (λ (y : ℕ). set (set values f y) place points) x-is ∙ ap (λ (g : ℕ). set (set values g (cond (get_or seen g false) (get_or values g 0) points)) place points) f-is
+-- the code writes at the follower's place only where none is given there
+abbrev pub followed : Given → ℕ → ℕ → Given
+followed g f points = cond (get_or g.seen f false) g (record { seen = g.seen; scoring = record { values = set g.scoring.values f points } })
 
-  pub with_value-are : (given : List (ℕ × ℕ)) (letter : ℕ) → among letter letters ≡ true → place ≡ letter_place letter → values ≡ values_of given → seen ≡ seen_in given
-      → set (set values f x) place points ≡ values_of ((letter, points) ∷ given)
-  with_value-are given letter h p v s = with_value_lem ∙ (λ i. with_value (v i) (s i) (p i) points) ∙ values-set given points letter h
+followed-values : (g : Given) (f points : ℕ) → followed g f points ≡ record { seen = g.seen; scoring = record { values = set g.scoring.values f (cond (get_or g.seen f false) (get_or g.scoring.values f 0) points) } }
+followed-values g f points = go (get_or g.seen f false)
+  where
+    go : (b : Bool) → cond b g (record { seen = g.seen; scoring = record { values = set g.scoring.values f points } })
+        ≡ record { seen = g.seen; scoring = record { values = set g.scoring.values f (cond b (get_or g.scoring.values f 0) points) } }
+    go true = rw (set-get_or g.scoring.values f 0) refl
+    go false = refl
+
+module _ (self : Given) (given : List (ℕ × ℕ)) (letter points : ℕ) {place : ℕ} (h : among letter letters ≡ true) (p : place ≡ letter_place letter) (s : self ≡ given_by given) where
+  seen_is : get_or self.seen place false ≡ among letter (letters_of given)
+  seen_is = ap₂ (λ (g : Given) (k : ℕ). get_or g.seen k false) s p ∙ seen_at given points letter h
+
+  pub letter-again : get_or self.seen place false ≡ true → refuses 7 ≡ or_bad_field (when (not (among letter (letters_of given))) (some (given_by ((letter, points) ∷ given))))
+  letter-again t = rw (sym seen_is ∙ t) refl
+
+  pub letter-new : get_or self.seen place false ≡ false → {f : ℕ} → f ≡ follower_of place → {more : Given} → more ≡ followed self f points
+      → says (record { seen = set more.seen place true; scoring = record { values = set more.scoring.values place points } })
+      ≡ or_bad_field (when (not (among letter (letters_of given))) (some (given_by ((letter, points) ∷ given))))
+  letter-new t {f} f-is {more} m =
+      let e : more ≡ record { seen = self.seen; scoring = record { values = set self.scoring.values f (cond (get_or self.seen f false) (get_or self.scoring.values f 0) points) } } = m ∙ followed-values self f points in
+      rw (sym seen_is ∙ t, e, f-is, p, s, seen-set given points letter h, values-set given points letter h) refl
 
 -- ---- one slot
-pub value_by : (row : List ℕ) (i c : ℕ) (points : Option ℕ) (v : Bool) → c ≡ get_or row i blank → points_of (cells row (i + 1) 4) ≡ points → ltb (letter_place c) 6 ≡ v
-    → value_of (cells row i 5) ≡ when v (to (λ (p : ℕ). (c, p)) points)
-value_by row i c p v at p-is v-is =
-    let e : cells row i 5 ≡ c ∷ cells row (i + 1) 4 = cells-cons row i 4 ∙ ap₂ (λ (x j : ℕ). x ∷ cells row j 4) (sym at) (sym (add-one i)) in
-    ap value_of e ∙ rw (letter_is c, v-is, p-is) refl
+module _ (row : List ℕ) (i c : ℕ) (at : c ≡ get_or row i blank) where
+  value_by : value_of (cells row i 5) ≡ when (among c letters) (to (λ (p : ℕ). (c, p)) (points_of (cells row (i + 1) 4)))
+  value_by =
+      let e : cells row i 5 ≡ c ∷ cells row (i + 1) 4 = cells-cons row i 4 ∙ ap₂ (λ (x j : ℕ). x ∷ cells row j 4) (sym at) (sym (add-one i)) in
+      ap value_of e
+
+  pub no-letter : cond (among c letters) (Some (letter_place c)) None ≡ None → to placed (value_of (cells row i 5)) ≡ none
+  no-letter n = ap (to placed) value_by ∙ go (among c letters) n
+    where
+      go : (b : Bool) → cond b (Some (letter_place c)) None ≡ None → to placed (when b (to (λ (p : ℕ). (c, p)) (points_of (cells row (i + 1) 4)))) ≡ none
+      go true e = cc
+      go false e = refl
+
+  pub letter-points : {k : ℕ} → cond (among c letters) (Some (letter_place c)) None ≡ Some k → to placed (value_of (cells row i 5)) ≡ to (λ (p : ℕ). (k, p)) (points_of (cells row (i + 1) 4))
+  letter-points {k} s =
+      let l = cond_some (among c letters) (letter_place c) k s in
+      ap (to placed) value_by ∙ rw (l.0) (go (points_of (cells row (i + 1) 4)) l.1)
+    where
+      go : (o : Option ℕ) → letter_place c ≡ k → to placed (to (λ (p : ℕ). (c, p)) o) ≡ to (λ (p : ℕ). (k, p)) o
+      go none e = refl
+      go (some p) e = ap (λ (j : ℕ). some (j, p)) e
 
 -- a slot that was read has a letter
-value-letter : (slot : List ℕ) (k p : ℕ) → or_bad_field (to placed (value_of slot)) ≡ says (k, p) → (c : ℕ) × (value_of slot ≡ some (c, p)) × (k ≡ letter_place c) × (among c letters ≡ true)
-value-letter slot k p e = go (among (get_or slot 0 blank) letters) refl (points_of (drop 1 slot)) refl e
+value-letter : (slot : List ℕ) (k p : ℕ) → says (k, p) ≡ or_bad_field (to placed (value_of slot)) → (c : ℕ) × (value_of slot ≡ some (c, p)) × (k ≡ letter_place c) × (among c letters ≡ true)
+value-letter slot k p e = go (among (get_or slot 0 blank) letters) refl (points_of (drop 1 slot)) refl (sym e)
   where
     go : (b : Bool) → among (get_or slot 0 blank) letters ≡ b → (o : Option ℕ) → points_of (drop 1 slot) ≡ o
         → or_bad_field (to placed (when b (to (λ (q : ℕ). (get_or slot 0 blank, q)) o))) ≡ says (k, p) → (c : ℕ) × (value_of slot ≡ some (c, p)) × (k ≡ letter_place c) × (among c letters ≡ true)
@@ -97,11 +137,7 @@ value-letter slot k p e = go (among (get_or slot 0 blank) letters) refl (points_
     go true h none r f = never (sym f)
     go false h o r f = never (sym f)
 
-no_value : (o : Option (ℕ × ℕ)) → or_bad_field (to placed o) ≡ refuses 7 → o ≡ none
-no_value (some v) e = never e
-no_value none e = refl
-
-pub slot_place : (slot : List ℕ) (k p : ℕ) → or_bad_field (to placed (value_of slot)) ≡ says (k, p) → k < 6
+pub slot_place : (slot : List ℕ) (k p : ℕ) → says (k, p) ≡ or_bad_field (to placed (value_of slot)) → k < 6
 slot_place slot k p e =
     let r = value-letter slot k p e in
     let h = ltb-true (letter_place r.0) 6 (sym (letter_is r.0) ∙ r.3) in
@@ -177,112 +213,75 @@ module _ (x : List ℕ) (xs : List (List ℕ)) where
       go (some v) none = refl
       go (some v) (some given) = ap (λ (b : Bool). when b (some (v ∷ given))) (differ_more v given) ∙ kept v given (not (among v.0 (letters_of given))) (letters_differ given) refl
 
--- ---- as a struct
-abbrev as_given : Option (List (ℕ × ℕ)) → Given
-as_given o = standing (λ (x : Given). x.good) none_given some_given o
+-- what was said of some slots, as what they give
+told : (o : Option (List (ℕ × ℕ))) (g : Maybe Given) → says g ≡ or_bad_field (to if_filled o) → (l : List (ℕ × ℕ)) × (o ≡ some l) × (g ≡ if_filled l)
+told none g e = never e
+told (some l) g e = (l, refl, cc)
 
-given_is : (o : Option (List (ℕ × ℕ))) (r : Given) → GivenSays o r → r ≡ as_given o
-given_is o r s = stands_is (λ (x : Given). x.good) none_given some_given o r s
+-- where no slot is filled
+abbrev nothing : Given
+nothing = record { seen = replicate 6 false; scoring = record { values = values defaults } }
 
-is_given : (o : Option (List (ℕ × ℕ))) (r : Given) → r ≡ as_given o → GivenSays o r
-unfolding none_given some_given
-is_given o r e = is_standing (λ (x : Given). x.good) none_given some_given refl (λ _. refl) o r e
+unwrapped : (l : List (ℕ × ℕ)) → unwrap_or (if_filled l) nothing ≡ given_by l
+unfolding seen_in values_of scoring_of
+unwrapped [] = refl
+unwrapped (v ∷ l) = refl
 
-abbrev as_scored : Option (List (ℕ × ℕ)) → Scored
-as_scored o = standing (λ (x : Scored). x.good) none_scored some_scored o
-
-is_scored_lem : (o : Option (List (ℕ × ℕ))) (r : Scored) → as_scored o ≡ r → ScoredSays o r
-is_scored_lem o r e = is_standing (λ (x : Scored). x.good) none_scored some_scored refl (λ _. refl) o r (sym e)
-
-not_good : (o : Option (List (ℕ × ℕ))) → (as_given o).good ≡ false → o ≡ none
-unfolding none_given some_given
-not_good none e = refl
-not_good (some given) e = clash (sym e)
-
-is_good : (o : Option (List (ℕ × ℕ))) → (as_given o).good ≡ true → (given : List (ℕ × ℕ)) × (o ≡ some given)
-unfolding none_given some_given
-is_good none e = clash e
-is_good (some given) e = (given, refl)
-
-if_filled : (o : Option (List (ℕ × ℕ))) → (as_given o).filled ≡ true → if_none o ≡ none
-unfolding none_given some_given
-if_filled none e = refl
-if_filled (some []) e = clash e
-if_filled (some (v ∷ given)) e = refl
-
-if_not-filled : (o : Option (List (ℕ × ℕ))) → (as_given o).good ≡ true → (as_given o).filled ≡ false → o ≡ if_none o
-unfolding none_given some_given
-if_not-filled none g e = refl
-if_not-filled (some []) g e = refl
-if_not-filled (some (v ∷ given)) g e = clash (sym e)
-
--- no slot filled
-pub none_yet : (b : Bool) → GivenSays (when b (some [])) (record { good = b; filled = false; seen = replicate 6 false; values = values defaults })
-unfolding none_given some_given seen_in values_of scoring_of
-none_yet true = is_given (some []) (record { good = true; filled = false; seen = replicate 6 false; values = values defaults }) refl
-none_yet false = is_given none (record { good = false; filled = false; seen = replicate 6 false; values = values defaults }) refl
-
--- one slot more before those after it, of which `given` is what they give
-module _ (slot : List ℕ) (after : List (List ℕ)) (given : Given) (said : GivenSays (differing after) given) where
-  is : given ≡ as_given (differing after)
-  is = given_is (differing after) given said
-
-  bad : differing (slot ∷ after) ≡ none → {r : Given} → GivenSays none r → GivenSays (differing (slot ∷ after)) r
-  bad e {r} n = subst (λ (o : Option (List (ℕ × ℕ))). GivenSays o r) (sym e) n
-
-  pub after_bad : given.good ≡ false → {r : Given} → GivenSays none r → GivenSays (differing (slot ∷ after)) r
-  after_bad g n = bad (go (all is_blank slot) refl (value_of slot) refl) n
+module _ (slot : List ℕ) (after : List (List ℕ)) where
+  -- one slot more before those after it, of which nothing good was said
+  none-before : differing after ≡ none → differing (slot ∷ after) ≡ none
+  none-before nothing = go (all is_blank slot) refl (value_of slot)
     where
-      nothing : differing after ≡ none
-      nothing = not_good (differing after) (ap (λ (x : Given). x.good) (sym is) ∙ g)
+      go : (b : Bool) → all is_blank slot ≡ b → (v : Option (ℕ × ℕ)) → differing (slot ∷ after) ≡ none
+      go true p v = blank-first slot after p ∙ ap if_none nothing
+      go false p v = filled-first slot after p ∙ ap₂ added refl nothing ∙ no_more (value_of slot)
+        where
+          no_more : (v : Option (ℕ × ℕ)) → added v none ≡ none
+          no_more none = refl
+          no_more (some v) = refl
 
-      go : (b : Bool) → all is_blank slot ≡ b → (v : Option (ℕ × ℕ)) → value_of slot ≡ v → differing (slot ∷ after) ≡ none
-      go true p v q = blank-first slot after p ∙ ap if_none nothing
-      go false p none q = filled-first slot after p ∙ ap₂ added q nothing
-      go false p (some v) q = filled-first slot after p ∙ ap₂ added q nothing
+  -- .. or of which `given` was
+  module _ (given : Maybe Given) (was : says given ≡ slots_give after) where
+    before : (l : List (ℕ × ℕ)) × (differing after ≡ some l) × (given ≡ if_filled l)
+    before = told (differing after) given was
 
-  pub blank_late : all is_blank slot ≡ true → given.filled ≡ true → {r : Given} → GivenSays none r → GivenSays (differing (slot ∷ after)) r
-  blank_late b f n = bad (blank-first slot after b ∙ if_filled (differing after) (ap (λ (x : Given). x.filled) (sym is) ∙ f)) n
+    pub blank_late : all is_blank slot ≡ true → is_some given ≡ true → refuses 7 ≡ slots_give (slot ∷ after)
+    blank_late b f = rw (blank-first slot after b, before.1) (go before.0 (sym (ap is_some before.2) ∙ f))
+      where
+        go : (l : List (ℕ × ℕ)) → is_some (if_filled l) ≡ true → refuses 7 ≡ or_bad_field (to if_filled (if_none (some l)))
+        go [] e = clash e
+        go (v ∷ l) e = refl
 
-  pub blank_more : all is_blank slot ≡ true → given.good ≡ true → given.filled ≡ false → GivenSays (differing (slot ∷ after)) given
-  blank_more b g f =
-      is_given (differing (slot ∷ after)) given
-      (is ∙ ap as_given (if_not-filled (differing after) (ap (λ (x : Given). x.good) (sym is) ∙ g) (ap (λ (x : Given). x.filled) (sym is) ∙ f) ∙ sym (blank-first slot after b)))
+    pub blank_more : all is_blank slot ≡ true → is_some given ≡ false → says None ≡ slots_give (slot ∷ after)
+    blank_more b f = rw (blank-first slot after b, before.1) (go before.0 (sym (ap is_some before.2) ∙ f))
+      where
+        go : (l : List (ℕ × ℕ)) → is_some (if_filled l) ≡ false → says None ≡ or_bad_field (to if_filled (if_none (some l)))
+        go [] e = refl
+        go (v ∷ l) e = clash (sym e)
 
-  module _ (b : all is_blank slot ≡ false) where
-    pub slot_bad : or_bad_field (to placed (value_of slot)) ≡ refuses 7 → {r : Given} → GivenSays none r → GivenSays (differing (slot ∷ after)) r
-    slot_bad e n = bad (filled-first slot after b ∙ ap (λ (v : Option (ℕ × ℕ)). added v (differing after)) (no_value (value_of slot) e)) n
+    module _ (b : all is_blank slot ≡ false) where
+      pub slot_bad : {k : ℕ} → refuses k ≡ or_bad_field (to placed (value_of slot)) → to if_filled (differing (slot ∷ after)) ≡ none
+      slot_bad e = rw (filled-first slot after b, no_value (value_of slot) (sym e)) refl
+        where
+          no_value : {k : ℕ} (o : Option (ℕ × ℕ)) → or_bad_field (to placed o) ≡ refuses k → o ≡ none
+          no_value (some v) e = never e
+          no_value none e = refl
 
-    module _ (g : given.good ≡ true) (k p : ℕ) (e : or_bad_field (to placed (value_of slot)) ≡ says (k, p)) where
-      before : (l : List (ℕ × ℕ)) × (differing after ≡ some l)
-      before = is_good (differing after) (ap (λ (x : Given). x.good) (sym is) ∙ g)
-
-      whole : given ≡ some_given before.0
-      whole = is ∙ ap as_given before.1
-
-      letter : (c : ℕ) × (value_of slot ≡ some (c, p)) × (k ≡ letter_place c) × (among c letters ≡ true)
-      letter = value-letter slot k p e
-
-      one : differing (slot ∷ after) ≡ when (not (among letter.0 (letters_of before.0))) (some ((letter.0, p) ∷ before.0))
-      one = filled-first slot after b ∙ ap₂ added letter.1 before.1
-
-      seen : get_or given.seen k false ≡ among letter.0 (letters_of before.0)
-      unfolding some_given
-      seen = ap₂ (λ (x : Given) (j : ℕ). get_or x.seen j false) whole letter.2 ∙ seen_at before.0 p letter.0 letter.3
-
-      pub letter-again : get_or given.seen k false ≡ true → {r : Given} → GivenSays none r → GivenSays (differing (slot ∷ after)) r
-      letter-again s n = bad (one ∙ ap (λ (v : Bool). when (not v) (some ((letter.0, p) ∷ before.0))) (sym seen ∙ s)) n
-
-      pub letter-new : get_or given.seen k false ≡ false → {v : List ℕ}
-          → ((l : List (ℕ × ℕ)) (c : ℕ) → among c letters ≡ true → k ≡ letter_place c → given.values ≡ values_of l → given.seen ≡ seen_in l → v ≡ values_of ((c, p) ∷ l))
-          → GivenSays (differing (slot ∷ after)) (record { good = true; filled = true; seen = set given.seen k true; values = v })
-      unfolding some_given
-      letter-new s {v} more =
-          is_given (differing (slot ∷ after)) (record { good = true; filled = true; seen = set given.seen k true; values = v })
-          (ap₂ (λ (l : List Bool) (m : List ℕ). record { good = true; filled = true; seen = l; values = m })
-          (ap₂ (λ (x : Given) (j : ℕ). set x.seen j true) whole letter.2 ∙ seen-set before.0 p letter.0 letter.3)
-          (more before.0 letter.0 letter.3 letter.2 (ap (λ (x : Given). x.values) whole) (ap (λ (x : Given). x.seen) whole))
-          ∙ ap as_given (sym (one ∙ ap (λ (v : Bool). when (not v) (some ((letter.0, p) ∷ before.0))) (sym seen ∙ s))))
+      pub slot_more : {k p : ℕ} → says (k, p) ≡ or_bad_field (to placed (value_of slot)) → {one : Given} → one ≡ unwrap_or given nothing → (r : Result Given Fault) (s : Result (Maybe Given) Fault)
+          → ((l : List (ℕ × ℕ)) (letter : ℕ) → among letter letters ≡ true → k ≡ letter_place letter → one ≡ given_by l → said r ≡ or_bad_field (when (not (among letter (letters_of l))) (some (given_by ((letter, p) ∷ l)))))
+          → MatchResult r (λ x. IsOkAnd s (λ y. y ≡ Some x)) (λ e. s ≡ Err e) → said s ≡ slots_give (slot ∷ after)
+      slot_more {k} {p} e {one} u r s w m =
+          let t = value-letter slot k p e in
+          rw (filled-first slot after b, t.1, before.1)
+          (go (before.0) (t.0, p) (not (among t.0 (letters_of before.0))) r s (w before.0 t.0 t.3 t.2 (u ∙ ap (λ (g : Maybe Given). unwrap_or g nothing) before.2 ∙ unwrapped before.0)) m)
+        where
+          go : (l : List (ℕ × ℕ)) (x : ℕ × ℕ) (v : Bool) (r : Result Given Fault) (s : Result (Maybe Given) Fault) → said r ≡ or_bad_field (when v (some (given_by (x ∷ l))))
+              → MatchResult r (λ x. IsOkAnd s (λ y. y ≡ Some x)) (λ e. s ≡ Err e) → said s ≡ or_bad_field (to if_filled (when v (some (x ∷ l))))
+          go l x true (Ok g) (Ok y) e h = let q : g ≡ given_by (x ∷ l) = cc in rw h (ap (λ (g : Given). says (Some g)) q)
+          go l x true (Ok g) (Err d) e h = absurd h
+          go l x true (Err d) s e h = never (sym e)
+          go l x false (Ok g) s e h = never e
+          go l x false (Err d) s e h = let q : number_of d ≡ 7 = cc in rw h (ap (λ (k : ℕ). refuses k) q)
 
 -- ---- the six slots, and the line
 pub slots_turn : (row : List ℕ) (i : ℕ) → i < 6 → drop i (slots_in row) ≡ cells row (5 + 9 * i) 5 ∷ drop (i + 1) (slots_in row)
@@ -297,8 +296,8 @@ slots_turn row (suc (suc (suc (suc (suc (suc i)))))) h = absurd (omega arith)
 abbrev filled_some : List (ℕ × ℕ) → Bool
 filled_some given = not (is_empty given)
 
-given_by : (row : List ℕ) → given_of row ≡ when (else_blank after_code slot_fields row) (keep filled_some (differing (slots_in row)))
-given_by row = ap (when (else_blank after_code slot_fields row)) (go (filled_first (slots_in row)))
+given_if : (row : List ℕ) → given_of row ≡ when (else_blank after_code slot_fields row) (keep filled_some (differing (slots_in row)))
+given_if row = ap (when (else_blank after_code slot_fields row)) (go (filled_first (slots_in row)))
   where
     go : (o : Option (List (ℕ × ℕ))) → keep are_given o ≡ keep filled_some (keep letters_differ o)
     go none = refl
@@ -313,33 +312,42 @@ given_by row = ap (when (else_blank after_code slot_fields row)) (go (filled_fir
         and_both true p false q = refl
         and_both false p false q = refl
 
+-- what is said of no slots, or of some
+no_slots : {k : ℕ} (slots : List (List ℕ)) → refuses k ≡ slots_give slots → differing slots ≡ none
+no_slots slots e = go (differing slots) e
+  where
+    go : {k : ℕ} (o : Option (List (ℕ × ℕ))) → refuses k ≡ or_bad_field (to if_filled o) → o ≡ none
+    go none e = refl
+    go (some l) e = never (sym e)
+
+none_early : (slots : List (List ℕ)) (i : ℕ) → differing (drop i slots) ≡ none → differing slots ≡ none
+none_early slots zero e = e
+none_early [] (suc i) e = e
+none_early (slot ∷ slots) (suc i) e = none-before slot slots (none_early slots i e)
+
 module _ (row : List ℕ) where
-  pub not-blank : else_blank after_code slot_fields row ≡ false → ScoredSays (given_of row) none_scored
-  not-blank e = is_scored_lem (given_of row) none_scored (ap as_scored (given_by row ∙ ap (λ (v : Bool). when v (keep filled_some (differing (slots_in row)))) e))
+  pub none_at : {k : ℕ} (i : ℕ) → i < 6 → refuses k ≡ slots_give (cells row (5 + 9 * i) 5 ∷ drop (i + 1) (slots_in row)) → to if_filled (differing (slots_in row)) ≡ none
+  none_at i h e = ap (to if_filled) (none_early (slots_in row) i (ap differing (slots_turn row i h) ∙ no_slots (cells row (5 + 9 * i) 5 ∷ drop (i + 1) (slots_in row)) e))
 
-  module _ (e : else_blank after_code slot_fields row ≡ true) (given : Given) (said : GivenSays (differing (slots_in row)) given) where
-    six-are : given ≡ as_given (differing (slots_in row))
-    six-are = given_is (differing (slots_in row)) given said
-
+  module _ (e : else_blank after_code slot_fields row ≡ true) where
     by_slots : given_of row ≡ keep filled_some (differing (slots_in row))
-    by_slots = given_by row ∙ ap (λ (v : Bool). when v (keep filled_some (differing (slots_in row)))) e
+    by_slots = given_if row ∙ ap (λ (v : Bool). when v (keep filled_some (differing (slots_in row)))) e
 
-    pub none_filled : given.filled ≡ false → ScoredSays (given_of row) none_scored
-    unfolding none_given some_given
-    none_filled f = is_scored_lem (given_of row) none_scored (ap as_scored by_slots ∙ go (differing (slots_in row)) (ap (λ (x : Given). x.filled) (sym six-are) ∙ f))
-      where
-        go : (o : Option (List (ℕ × ℕ))) → (as_given o).filled ≡ false → as_scored (keep filled_some o) ≡ as_scored none
-        go none h = refl
-        go (some []) h = refl
-        go (some (v ∷ l)) h = clash (sym h)
+    pub none_given : {k : ℕ} → refuses k ≡ slots_give (slots_in row) → to scored (given_of row) ≡ none
+    none_given r = rw (by_slots, no_slots (slots_in row) r) refl
 
-    pub some-filled : given.filled ≡ true → ScoredSays (given_of row) (record { good = true; scoring = record { values = given.values } })
-    unfolding none_given some_given values_of
-    some-filled f =
-        is_scored_lem (given_of row) (record { good = true; scoring = record { values = given.values } })
-        (ap as_scored by_slots ∙ go (differing (slots_in row)) (ap (λ (x : Given). x.filled) (sym six-are) ∙ f) ∙ ap (λ (x : Given). record { good = true; scoring = record { values = x.values } }) (sym six-are))
+    pub none_filled : says None ≡ slots_give (slots_in row) → to scored (given_of row) ≡ none
+    none_filled r = rw by_slots (go (differing (slots_in row)) r)
       where
-        go : (o : Option (List (ℕ × ℕ))) → (as_given o).filled ≡ true → as_scored (keep filled_some o) ≡ record { good = true; scoring = record { values = (as_given o).values } }
-        go none h = clash h
-        go (some []) h = clash h
-        go (some (v ∷ l)) h = refl
+        go : (o : Option (List (ℕ × ℕ))) → says None ≡ or_bad_field (to if_filled o) → to scored (keep filled_some o) ≡ none
+        go none r = refl
+        go (some []) r = refl
+        go (some (v ∷ l)) r = cc
+
+    pub some_filled : {g : Given} → says (Some g) ≡ slots_give (slots_in row) → says g.scoring ≡ or_bad_field (to scored (given_of row))
+    some_filled r = rw by_slots (go (differing (slots_in row)) r)
+      where
+        go : {g : Given} (o : Option (List (ℕ × ℕ))) → says (Some g) ≡ or_bad_field (to if_filled o) → says g.scoring ≡ or_bad_field (to scored (keep filled_some o))
+        go none r = never r
+        go (some []) r = cc
+        go {g} (some (v ∷ l)) r = let q : g ≡ given_by (v ∷ l) = cc in ap (λ (x : Given). says x.scoring) q

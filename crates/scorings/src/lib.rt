@@ -1,90 +1,56 @@
-// A 162 line, by value: the values of W D L A P X that it gives, and of those that it does not the defaults, or for P and X the event's own W and D. A line against its rule is refusal 7:
-// Value's Bad; Given and Scored with good false.
+// A 162 line, by value: the values of W D L A P X that it gives, and of those that it does not the defaults, or for P and X the event's own W and D. A line against its rule is
+// Fault::BadField.
 #![tactic(auto)]
 
-ghost use Rattle.std.specs.Prelude.{◌≡◌, true, cond, List, [], ◌∷◌, ℕ, ◌≤◌, ◌<◌};
+ghost use Rattle.std.specs.Prelude.{◌≡◌, true, cond, not, List, [], ◌∷◌, ℕ, ◌≤◌, ◌<◌};
 ghost use Rattle.std.proofs.Math.Option.{some};
 ghost use Rattle.kit.specs.Lists.{among};
 ghost use Rattle.kit.specs.Decides.{to, when};
 ghost use Rattle.law.specs.Columns.{cells, else_blank, after_code};
-ghost use Rattle.law.specs.Scoring.{letters, slot_fields};
+ghost use Rattle.law.specs.Scoring.{letters, letters_of, slot_fields};
 ghost use Rattle.law.proofs.RecordsRead.{value_of, given_of};
-ghost use Rattle.fields.specs.Said.{or_bad_field};
-ghost use Rattle.scorings.specs.Scoring.{letter_place, value_says, placed, differing, slots_in, seen_in, values_of, follower_of, GivenSays, ScoredSays};
+ghost use Rattle.fields.specs.Said.{says, said, or_bad_field};
+ghost use Rattle.scorings.specs.Scoring.{letter_place, placed, slots_in, follower_of, given_by, slots_give, scored};
 
-use fields::Points;
-use types::{ABSENT, DRAW, LOSS, PAIRING, UNKNOWN, VALUES, WIN};
+use types::{ABSENT, DRAW, Fault, LOSS, PAIRING, UNKNOWN, VALUES, WIN};
 
 // What W, D, L, A, P and X are worth, in tenths.
-#[derive(Drop)]
+#[derive(Clone, Copy)]
 pub struct Scoring {
     pub values: [u32; VALUES],
 }
 
-// A 162 line; where it is not good, the defaults.
-#[derive(Drop)]
-pub struct Scored {
-    pub good: bool,
-    pub scoring: Scoring,
-}
-
-// A slot of a 162 line: its letter's place among W D L A P X, and its points.
-#[derive(Drop)]
-enum Value {
-    Of(usize, u32),
-    Bad,
-}
-
-// What some slots of a 162 line give: whether they are good and whether one is filled, which letters they have, and the values.
-#[derive(Drop)]
+// What the filled slots of a 162 line give: which letters they have, and the values.
+#[derive(Clone, Copy)]
 struct Given {
-    good: bool,
-    filled: bool,
     seen: [bool; VALUES],
-    values: [u32; VALUES],
+    scoring: Scoring,
 }
 
-// The place of a letter among W D L A P X; 6 for any other byte.
-fn letter_place(c: u8) -> usize
-    ensures { result ≡ letter_place c }
+// The place of a letter among W D L A P X; none for any other byte.
+#[tactic(auto, unfolding(crate::specs::Scoring::letter_place))]
+fn letter_place(c: u8) -> Option<usize>
+    ensures { result ≡ cond (among c letters) (Some (letter_place c)) None }
 {
     match c {
-        b'W' => WIN,
-        b'D' => DRAW,
-        b'L' => LOSS,
-        b'A' => ABSENT,
-        b'P' => PAIRING,
-        b'X' => UNKNOWN,
-        _ => VALUES,
+        b'W' => Some(WIN),
+        b'D' => Some(DRAW),
+        b'L' => Some(LOSS),
+        b'A' => Some(ABSENT),
+        b'P' => Some(PAIRING),
+        b'X' => Some(UNKNOWN),
+        _ => None,
     }
 }
 
-fn value_at(line: &[u8], from: usize) -> Value
+// A filled slot: its letter's place, and its points.
+fn value_at(line: &[u8], from: usize) -> Result<(usize, u32), Fault>
     requires { from ≤ 65534 }
-    ensures { value_says result ≡ or_bad_field (to placed (value_of (cells line.now from 5))) }
+    ensures { said result ≡ or_bad_field (to placed (value_of (cells line.now from 5))) }
 {
-    let letter = letter_place(fields::column(line, from));
-    if VALUES <= letter {
-        return Value::Bad;
-    }
-    let Points::Tenths(points) = fields::points_at(line, from + 1) else {
-        return Value::Bad;
-    };
-    Value::Of(letter, points)
-}
-
-// No slot filled.
-fn nothing_given(good: bool) -> Given
-    ensures { GivenSays (when good (some [])) result }
-{
-    let defaults = Scoring::DEFAULTS;
-    let values = defaults.values;
-    Given {
-        good,
-        filled: false,
-        seen: [false; VALUES],
-        values,
-    }
+    let place = letter_place(fields::column(line, from)).ok_or(Fault::BadField)?;
+    let points = fields::points_at(line, from + 1)?;
+    Ok((place, points))
 }
 
 // Where a value stands too while none is given there: W's at P's place, D's at X's. Any other stands at its own place alone.
@@ -99,100 +65,73 @@ fn follower_of(place: usize) -> usize
     }
 }
 
-// A value that is given, or else another.
-fn value_or(given: bool, value: u32, other: u32) -> u32
-    ensures { result ≡ cond given value other }
-{
-    if given {
-        return value;
-    }
-    other
-}
+impl Given {
+    // No slot filled.
+    const NOTHING: Given = Given {
+        seen: [false; VALUES],
+        scoring: Scoring::DEFAULTS,
+    };
 
-// The values with one more that is given, at its place and at its follower's: a P or X that is not given takes the event's own W or D.
-fn with_value(
-    values: [u32; VALUES],
-    seen: [bool; VALUES],
-    place: usize,
-    points: u32,
-) -> [u32; VALUES]
-    requires { place < 6 }
-    ensures { (given : List (ℕ × ℕ)) (letter : ℕ) → among letter letters ≡ true → place ≡ letter_place letter → values ≡ values_of given → seen ≡ seen_in given → result ≡ values_of ((letter, points) ∷ given) }
-{
-    let follower = follower_of(place);
-    let mut more = values;
-    more[follower] = value_or(seen[follower], values[follower], points);
-    more[place] = points;
-    more
+    // One value more, of a letter that none of these has, at its place and at its follower's: a P or X that is not given takes the event's own W or D.
+    fn with(self, place: usize, points: u32) -> Result<Given, Fault>
+        requires { place < 6 }
+        ensures { (given : List (ℕ × ℕ)) (letter : ℕ) → among letter letters ≡ true → place ≡ letter_place letter → self ≡ given_by given → said result ≡ or_bad_field (when (not (among letter (letters_of given))) (some (given_by ((letter, points) ∷ given)))) }
+    {
+        if self.seen[place] {
+            return Err(Fault::BadField);
+        }
+        let follower = follower_of(place);
+        let own = self.seen[follower];
+        let mut more = self;
+        if !own {
+            more.scoring.values[follower] = points;
+        }
+        more.scoring.values[place] = points;
+        more.seen[place] = true;
+        Ok(more)
+    }
 }
 
 // One slot more, before those that are given: a blank one has only blank ones after it, and a filled one has a letter of its own.
-fn with_slot(line: &[u8], from: usize, given: Given) -> Given
+fn with_slot(line: &[u8], from: usize, given: Option<Given>) -> Result<Option<Given>, Fault>
     requires { from ≤ 65534 }
-    ensures { (after : List (List ℕ)) → GivenSays (differing after) given → GivenSays (differing (cells line.now from 5 ∷ after)) result }
+    ensures { (after : List (List ℕ)) → says given ≡ slots_give after → said result ≡ slots_give (cells line.now from 5 ∷ after) }
 {
-    if !given.good {
-        return nothing_given(false);
-    }
     if fields::blank_at(line, from, 5) {
-        if given.filled {
-            return nothing_given(false);
-        }
-        return given;
+        return if given.is_some() {
+            Err(Fault::BadField)
+        } else {
+            Ok(None)
+        };
     }
-    let Value::Of(letter, points) = value_at(line, from) else {
-        return nothing_given(false);
-    };
-    let mut seen = given.seen;
-    if seen[letter] {
-        return nothing_given(false);
-    }
-    let before = given.values;
-    let values = with_value(before, seen, letter, points);
-    seen[letter] = true;
-    Given {
-        good: true,
-        filled: true,
-        seen,
-        values,
-    }
+    let (place, points) = value_at(line, from)?;
+    given
+        .unwrap_or(Given::NOTHING)
+        .with(place, points)
+        .map(Some)
 }
 
-// The six slots, from the last to the first.
-fn slots_given(line: &[u8]) -> Given
-    ensures { GivenSays (differing (slots_in line.now)) result }
+// The six slots, from the last to the first; nothing where none is filled.
+fn slots_given(line: &[u8]) -> Result<Option<Given>, Fault>
+    ensures { said result ≡ slots_give (slots_in line.now) }
 {
-    let mut given = nothing_given(true);
-    let mut i = VALUES;
-    while 0 < i {
-        i -= 1;
-        given = with_slot(line, 5 + 9 * i, given);
+    let mut given = None;
+    for i in (0..VALUES).rev() {
+        given = with_slot(line, 5 + 9 * i, given)?;
     }
-    given
+    Ok(given)
 }
 
 fn scoring_else_blank(line: &[u8]) -> bool
     ensures { result ≡ else_blank after_code slot_fields line.now }
 {
-    if !fields::blank_at(line, 3, 2) {
-        return false;
-    }
-    if !fields::blank_at(line, 10, 4) {
-        return false;
-    }
-    if !fields::blank_at(line, 19, 4) {
-        return false;
-    }
-    if !fields::blank_at(line, 28, 4) {
-        return false;
-    }
-    if !fields::blank_at(line, 37, 4) {
-        return false;
-    }
-    if !fields::blank_at(line, 46, 4) {
-        return false;
-    }
-    fields::blank_from(line, 55)
+    fields::blank_at(line, 3, 2)
+        && fields::blank_at(line, 10, 4)
+        && fields::blank_at(line, 19, 4)
+        && fields::blank_at(line, 28, 4)
+        && fields::blank_at(line, 37, 4)
+        && fields::blank_at(line, 46, 4)
+        && fields::blank_from(line, 55)
 }
 
 impl Scoring {
@@ -202,26 +141,13 @@ impl Scoring {
     };
 
     // A letter that is not given keeps its default; P and X take the event's own W and D.
-    pub fn from_line(line: &[u8]) -> Scored
-        ensures { ScoredSays (given_of line.now) result }
+    pub fn from_line(line: &[u8]) -> Result<Scoring, Fault>
+        ensures { said result ≡ or_bad_field (to scored (given_of line.now)) }
     {
         if !scoring_else_blank(line) {
-            return Scored {
-                good: false,
-                scoring: Scoring::DEFAULTS,
-            };
+            return Err(Fault::BadField);
         }
-        let given = slots_given(line);
-        if !given.filled {
-            return Scored {
-                good: false,
-                scoring: Scoring::DEFAULTS,
-            };
-        }
-        let values = given.values;
-        Scored {
-            good: true,
-            scoring: Scoring { values },
-        }
+        let given = slots_given(line)?.ok_or(Fault::BadField)?;
+        Ok(given.scoring)
     }
 }

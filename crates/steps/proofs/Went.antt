@@ -16,8 +16,25 @@ use Rattle.law.specs.Scoring.{values, scoring_of}
 use Rattle.law.proofs.RecordsRead.{text_of}
 use Rattle.join.specs.Run.{on, stop}
 use Rattle.join.specs.Store.{Nine, Count, State, state, count_text, count_rounds, count_colour, count_scoring, count_acceleration, store_text, store_line, step_text, step_rounds, step_colour, step_scoring, step_acceleration}
-use Rattle.steps.specs.Counts.{with_text, with_lines}
+use Rattle.std.specs.Prelude.{Result, Ok, Err}
+use Rattle.std.specs.Result.{IsErrAnd}
+use Rattle.types.specs.declared.Fault.{Fault}
+use Rattle.types.specs.Faults.{number_of}
+use Rattle.fields.specs.Said.{refuses, or_bad_field}
+use Rattle.fields.proofs.Cases.{never}
+use Rattle.steps.specs.declared.counts.Counts.{Counts}
+use Rattle.steps.specs.Counts.{as_count, went, with_text, with_lines}
 use Rattle.steps.proofs.Answers.{Front}
+
+-- the exit of a `?`: the fault is handed on, and nothing was decided
+module _ {A B : Type 0} (o : Option B) where
+  pub handed : (r : Result A Fault) (e : Fault) → IsErrAnd r (λ d. d ≡ e) → refuses (number_of e) ≡ or_bad_field o → (ln : ℕ) (c : Counts) (t : Nine) → (went ln r c t ≡ stop 7 (state ln (as_count c) t)) × (o ≡ none)
+  handed (Ok a) e h p ln c t = absurd h
+  handed (Err d) e h p ln c t = go o h p
+    where
+      go : (o : Option B) → d ≡ e → refuses (number_of e) ≡ or_bad_field o → (stop (number_of d) (state ln (as_count c) t) ≡ stop 7 (state ln (as_count c) t)) × (o ≡ none)
+      go none h p = (let q : number_of e ≡ 7 = cc in ap (λ (k : ℕ). stop k (state ln (as_count c) t)) (ap number_of h ∙ q), refl)
+      go (some b) h p = never (sym p)
 
 module _ (ln : ℕ) (c : Count) (t : Nine) where
   abbrev s : State

@@ -1,38 +1,39 @@
 -- The counts and what a step answers, as join says them.
-use Rattle.std.specs.Prelude.{cond, List, [], ◌∷◌, ℕ, ◌+◌, ◌≤◌, eqb}
+use Rattle.std.specs.Prelude.{Bool, List, [], ◌∷◌, ℕ, ◌+◌, Option, Some, None, Result, Ok, Err, is_some, unwrap_or}
 use Prim.Native.Char.{code}
-use Rattle.types.specs.declared.Acceleration.{Acceleration}
-use Rattle.law.specs.Sizes.{most_accelerations, most_text}
+use Rattle.types.specs.declared.Fault.{Fault}
+use Rattle.types.specs.Faults.{number_of}
 use Rattle.law.specs.Text.{text_codes}
+use Rattle.law.specs.Scoring.{values, scoring_of}
 use Rattle.join.specs.Run.{Way, on, stop}
 use Rattle.join.specs.Store.{Nine, Count, State, state, code_place}
-use Rattle.steps.specs.declared.Counts.{Counts}
-use Rattle.steps.specs.declared.Stepped.{Stepped}
+use Rattle.scorings.specs.declared.Scoring.{Scoring}
+use Rattle.steps.specs.declared.counts.Counts.{Counts}
 
--- the counts, with the acceleration records that stand beside them
-abbrev pub as_count : Counts → List Acceleration → Count
-as_count c rs =
+-- the values by what 162 said: the defaults where it said nothing
+abbrev pub values_by : Option Scoring → List ℕ
+values_by None = values (scoring_of [])
+values_by (Some scoring) = scoring.values
+
+abbrev pub as_count : Counts → Count
+as_count c =
     record {
       players = c.players;
       accelerations = c.accelerations;
       text = c.text;
-      records = rs;
+      records = c.records;
       seen = c.seen;
-      stated = c.stated;
-      rounds = c.rounds;
+      stated = is_some c.rounds;
+      rounds = unwrap_or c.rounds 0;
       colour = c.colour;
-      scored = c.scored;
-      values = c.values;
+      scored = is_some c.scoring;
+      values = values_by c.scoring;
     }
 
--- no more than there is room for
-pub record Small (c : Counts) : Type 0 where
-  pub accelerations : c.accelerations ≤ most_accelerations
-  pub text : c.text ≤ most_text
-
--- the step of a line after ln others, and what it leaves: 0 and the state after it, or a fault and the state as it was
-abbrev pub went : ℕ → Stepped → List Acceleration → Nine → Way State ℕ
-went ln r rs t = cond (eqb r.fault 0) (on (state (ln + 1) (as_count r.counts rs) t)) (stop r.fault (state ln (as_count r.counts rs) t))
+-- the step of a line after ln others, and what it leaves: the state after it, or a fault and the state as it was
+abbrev pub went : {A : Type 0} → ℕ → Result A Fault → Counts → Nine → Way State ℕ
+went ln (Ok a) c t = on (state (ln + 1) (as_count c) t)
+went ln (Err e) c t = stop (number_of e) (state ln (as_count c) t)
 
 -- the place among the sixteen of a text code, which ends with 2, by its first two bytes
 abbrev pub place_of_code : ℕ → ℕ → ℕ

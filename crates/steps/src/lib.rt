@@ -1,49 +1,39 @@
-// What one line of the file does: its record is read, and stored in the lent tables and the counts beside them, or the line is refused by 7, 8 or 9. Promised:
-// each step is join's, on every content of the tables.
+// What one line of the file does: its record is read, and stored in the lent tables and the counts beside them, or the line is refused, as a bad field, a record that stands again, or one too many. Promised:
+// each step is join's, on every content of the tables; a line that is refused changes nothing.
 #![tactic(auto)]
 
-ghost use Rattle.std.specs.Prelude.{◌≡◌, ℕ, ◌+◌, ◌≤◌, ◌<◌, List, length, set};
-ghost use Rattle.types.specs.declared.Acceleration as lent;
-ghost use Rattle.law.specs.Sizes.{most_line, most_accelerations, most_text};
+mod counts;
+
+ghost use Rattle.std.specs.Prelude.{◌≡◌, ℕ, ◌+◌, ◌≤◌, ◌<◌, length};
+ghost use Rattle.law.specs.Sizes.{most_line, most_text};
 ghost use Rattle.law.specs.Columns.{part, code_field};
 ghost use Rattle.law.specs.Text.{text_codes};
 ghost use Rattle.law.specs.Items as items;
 ghost use Rattle.law.specs.Tables.{line_cells};
 ghost use Rattle.law.proofs.RecordsRead.{text_of, rounds_of_row, colour_of, given_of, acceleration_of};
-ghost use Rattle.join.specs.Store.{Nine, state, count_text, count_rounds, count_colour, count_scoring, count_acceleration, code_place, step_text, step_rounds, step_colour, step_scoring, step_acceleration};
-ghost use Rattle.record_cells.specs.Cells.{record_cells, records_of};
+ghost use Rattle.join.specs.Store.{Nine, no_count, state, code_place, step_text, step_rounds, step_colour, step_scoring, step_acceleration};
 ghost use Rattle.steps.specs.Counts.{as_count, went, place_of_code, place_in0, place_in1, place_in2, with_text, with_lines};
 
-use record_cells::RECORD_CELLS;
-use records::{Accelerated, Initial, Rounds, Text};
+pub use counts::{Counts, REPEATED, TEXT_CODES};
 use scorings::Scoring;
-use types::{LineNumber, MOST_ACCELERATIONS, MOST_TEXT, VALUES};
+use types::{Fault, LineNumber, MOST_ACCELERATIONS, MOST_TEXT, NO_ACCELERATION};
 
-// How many codes there are of kept text, and the place of the one that may stand more than once.
-pub const TEXT_CODES: usize = 16;
-
-pub const REPEATED: usize = 9;
-
-// Kept beside the tables: how many players, acceleration records and bytes of text there are, which text codes stood, and what 142, 152 and 162 said. The
-// records themselves are numbers in an array that is lent.
-#[derive(Clone, Copy)]
-pub struct Counts {
-    pub players: usize,
-    pub accelerations: usize,
-    pub text: usize,
-    pub seen: [bool; TEXT_CODES],
-    pub stated: bool,
-    pub rounds: u32,
-    pub colour: u8,
-    pub scored: bool,
-    pub values: [u32; VALUES],
-}
-
-// The refusal of a line, or 0 and the counts after it.
-#[derive(Clone, Copy)]
-pub struct Stepped {
-    pub fault: u32,
-    pub counts: Counts,
+impl Counts {
+    // Before the first line.
+    pub fn new() -> Counts
+        ensures { as_count result ≡ no_count }
+    {
+        Counts {
+            players: 0,
+            accelerations: 0,
+            text: 0,
+            records: [NO_ACCELERATION; MOST_ACCELERATIONS],
+            seen: [false; TEXT_CODES],
+            rounds: None,
+            colour: 0,
+            scoring: None,
+        }
+    }
 }
 
 // The place of a text code among the sixteen, by its second byte: of those that begin with 0, with 1, with 2.
@@ -99,56 +89,6 @@ fn place_of_code(a: u8, b: u8) -> usize
     }
 }
 
-// The counts with one more text line, of n bytes with its CR.
-fn with_text(c: Counts, place: usize, n: usize) -> Counts
-    requires { (place < 16) × (c.text ≤ most_text) × (n ≤ 65536) }
-    ensures { (rs : List lent.Acceleration) → as_count result rs ≡ count_text place n (as_count c rs) }
-{
-    let mut seen = c.seen;
-    seen[place] = true;
-    let mut counts = c;
-    counts.seen = seen;
-    counts.text = c.text + n;
-    counts
-}
-
-// One acceleration record more.
-fn with_acceleration(c: Counts) -> Counts
-    requires { c.accelerations < most_accelerations }
-    ensures { (rs : List lent.Acceleration) (a : lent.Acceleration) → as_count result (set rs c.accelerations a) ≡ count_acceleration a (as_count c rs) }
-{
-    let mut counts = c;
-    counts.accelerations = c.accelerations + 1;
-    counts
-}
-
-fn with_rounds(c: Counts, n: u32) -> Counts
-    ensures { (rs : List lent.Acceleration) → as_count result rs ≡ count_rounds n (as_count c rs) }
-{
-    let mut counts = c;
-    counts.stated = true;
-    counts.rounds = n;
-    counts
-}
-
-fn with_colour(c: Counts, colour: u8) -> Counts
-    ensures { (rs : List lent.Acceleration) → as_count result rs ≡ count_colour colour (as_count c rs) }
-{
-    let mut counts = c;
-    counts.colour = colour;
-    counts
-}
-
-fn with_scoring(c: Counts, scoring: Scoring) -> Counts
-    ensures { (rs : List lent.Acceleration) → as_count result rs ≡ count_scoring scoring.values (as_count c rs) }
-{
-    let values = scoring.values;
-    let mut counts = c;
-    counts.scored = true;
-    counts.values = values;
-    counts
-}
-
 // The place of the code of a kept text line.
 pub fn text_place(line: &[u8]) -> usize
     requires { items.kind_of line.now ≡ items.kept-text }
@@ -160,133 +100,80 @@ pub fn text_place(line: &[u8]) -> usize
 }
 
 // A line of kept text.
-pub fn step_text(line: &[u8], c: Counts, text: &mut [u8]) -> Stepped
-    requires { (items.kind_of line.now ≡ items.kept-text) × (length line.now ≤ most_line) × (c.text ≤ most_text) × (most_text ≤ length text.old) }
-    ensures { (ln : ℕ) (rs : List lent.Acceleration) (t : Nine) → went ln result rs (with_text t text.new) ≡ step_text (text_of line.now) (code_place (part code_field line.now) 0 text_codes) (state ln (as_count c rs) (with_text t text.old)) }
+pub fn step_text(line: &[u8], counts: &mut Counts, text: &mut [u8]) -> Result<(), Fault>
+    requires kept { items.kind_of line.now ≡ items.kept-text }
+    requires short { length line.now ≤ most_line }
+    requires long { most_text ≤ length text.old }
+    ensures { (ln : ℕ) (t : Nine) → went ln result counts.new (with_text t text.new) ≡ step_text (text_of line.now) (code_place (part code_field line.now) 0 text_codes) (state ln (as_count counts.old) (with_text t text.old)) }
 {
-    let Text::Kept(n) = records::text_of(line) else {
-        return Stepped {
-            fault: 7,
-            counts: c,
-        };
-    };
+    let n = records::text_of(line)?;
     let place = text_place(line);
-    let seen = c.seen;
-    if (place != REPEATED) & seen[place] {
-        return Stepped {
-            fault: 8,
-            counts: c,
-        };
+    if (place != REPEATED) & counts.seen[place] {
+        return Err(Fault::Again);
     }
-    if MOST_TEXT < c.text + (n + 1) {
-        return Stepped {
-            fault: 9,
-            counts: c,
-        };
+    let end = counts.text + (n + 1);
+    if MOST_TEXT < end {
+        return Err(Fault::TooMany);
     }
-    tables::store_text(text, c.text, line, n);
-    Stepped {
-        fault: 0,
-        counts: with_text(c, place, n + 1),
-    }
+    tables::store_text(text, counts.text, &line[..n]);
+    counts.seen[place] = true;
+    counts.text = end;
+    Ok(())
 }
 
 // A 142 line.
-pub fn step_rounds(line: &[u8], c: Counts) -> Stepped
-    ensures { (ln : ℕ) (rs : List lent.Acceleration) (t : Nine) → went ln result rs t ≡ step_rounds (rounds_of_row line.now) (state ln (as_count c rs) t) }
+pub fn step_rounds(line: &[u8], counts: &mut Counts) -> Result<(), Fault>
+    ensures { (ln : ℕ) (t : Nine) → went ln result counts.new t ≡ step_rounds (rounds_of_row line.now) (state ln (as_count counts.old) t) }
 {
-    let Rounds::Given(n) = records::rounds_of(line) else {
-        return Stepped {
-            fault: 7,
-            counts: c,
-        };
-    };
-    if c.stated {
-        return Stepped {
-            fault: 8,
-            counts: c,
-        };
+    let rounds = records::rounds_of(line)?;
+    if counts.rounds.is_some() {
+        return Err(Fault::Again);
     }
-    Stepped {
-        fault: 0,
-        counts: with_rounds(c, n),
-    }
+    counts.rounds = Some(rounds);
+    Ok(())
 }
 
 // A 152 line.
-pub fn step_colour(line: &[u8], c: Counts) -> Stepped
-    ensures { (ln : ℕ) (rs : List lent.Acceleration) (t : Nine) → went ln result rs t ≡ step_colour (colour_of line.now) (state ln (as_count c rs) t) }
+pub fn step_colour(line: &[u8], counts: &mut Counts) -> Result<(), Fault>
+    ensures { (ln : ℕ) (t : Nine) → went ln result counts.new t ≡ step_colour (colour_of line.now) (state ln (as_count counts.old) t) }
 {
-    let Initial::Letter(colour) = records::colour_of(line) else {
-        return Stepped {
-            fault: 7,
-            counts: c,
-        };
-    };
-    if c.colour != 0 {
-        return Stepped {
-            fault: 8,
-            counts: c,
-        };
+    let colour = records::colour_of(line)?;
+    if counts.colour != 0 {
+        return Err(Fault::Again);
     }
-    Stepped {
-        fault: 0,
-        counts: with_colour(c, colour),
-    }
+    counts.colour = colour;
+    Ok(())
 }
 
-// A 162 line.
-pub fn step_scoring(line: &[u8], c: Counts) -> Stepped
-    ensures { (ln : ℕ) (rs : List lent.Acceleration) (t : Nine) → went ln result rs t ≡ step_scoring (given_of line.now) (state ln (as_count c rs) t) }
+// A 162 line. Of `step_rounds` it has another reader and another field; one function for both would be given each as a closure.
+pub fn step_scoring(line: &[u8], counts: &mut Counts) -> Result<(), Fault>
+    ensures { (ln : ℕ) (t : Nine) → went ln result counts.new t ≡ step_scoring (given_of line.now) (state ln (as_count counts.old) t) }
 {
-    let read = Scoring::from_line(line);
-    if !read.good {
-        return Stepped {
-            fault: 7,
-            counts: c,
-        };
+    let scoring = Scoring::from_line(line)?;
+    if counts.scoring.is_some() {
+        return Err(Fault::Again);
     }
-    if c.scored {
-        return Stepped {
-            fault: 8,
-            counts: c,
-        };
-    }
-    let scoring = read.scoring;
-    Stepped {
-        fault: 0,
-        counts: with_scoring(c, scoring),
-    }
+    counts.scoring = Some(scoring);
+    Ok(())
 }
 
 // A 250 line.
 pub fn step_acceleration(
     line: &[u8],
     number: LineNumber,
-    c: Counts,
-    cells: &mut [u32; RECORD_CELLS],
+    counts: &mut Counts,
     lines: &mut [u32],
-) -> Stepped
-    requires { (c.accelerations ≤ most_accelerations) × (length cells.old ≡ record_cells) × (line_cells ≤ length lines.old) }
-    ensures { ((ln : ℕ) (t : Nine) → number.0 ≡ ln + 1 → went ln result (records_of cells.new) (with_lines t lines.new) ≡ step_acceleration (acceleration_of line.now) (state ln (as_count c (records_of cells.old)) (with_lines t lines.old))) × (length cells.new ≡ record_cells) }
+) -> Result<(), Fault>
+    requires { line_cells ≤ length lines.old }
+    ensures { (ln : ℕ) (t : Nine) → number.0 ≡ ln + 1 → went ln result counts.new (with_lines t lines.new) ≡ step_acceleration (acceleration_of line.now) (state ln (as_count counts.old) (with_lines t lines.old)) }
 {
-    let Accelerated::Record(a) = records::acceleration_of(line) else {
-        return Stepped {
-            fault: 7,
-            counts: c,
-        };
-    };
-    let n = c.accelerations;
-    if MOST_ACCELERATIONS < n + 1 {
-        return Stepped {
-            fault: 9,
-            counts: c,
-        };
+    let record = records::acceleration_of(line)?;
+    let n = counts.accelerations;
+    if n == MOST_ACCELERATIONS {
+        return Err(Fault::TooMany);
     }
-    record_cells::put(cells, n, a);
     tables::store_record_line(lines, n, number);
-    Stepped {
-        fault: 0,
-        counts: with_acceleration(c),
-    }
+    counts.records[n] = record;
+    counts.accelerations = n + 1;
+    Ok(())
 }

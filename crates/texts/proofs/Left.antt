@@ -18,10 +18,9 @@ use Rattle.law.specs.Lawful.{KeptLine}
 use Rattle.lines.specs.Step.{CRFrom}
 use Rattle.lines.proofs.Found.{split, text_free}
 use Rattle.join.proofs.Codes.{seen_of, named_is}
-use Rattle.texts.specs.declared.Stood.{Stood}
 use Rattle.texts.specs.Kept.{KeptText, Told}
 use Rattle.texts.specs.Stood.{StandsAfter}
-use Rattle.texts.proofs.KeptLines.{told_no}
+use Rattle.texts.proofs.Told.{told_no}
 
 -- ---- bytes up to the first CR
 clean_free : (l : List ℕ) → all allowed l ≡ true → has_no_cr l ≡ true
@@ -162,16 +161,18 @@ module _ (whole : List ℕ) (at : ℕ) (seen : List Bool) (w : Walked whole at s
       there : KeptText whole → (KeptLine text × (is_repeated w.before text ≡ false)) × Left (w.before ++ (text ∷ [])) (drop (r + 1) whole)
       there k = next-left w.before text (drop (r + 1) whole) (text_free whole at r f) (subst (Left w.before) parts (w.back k))
 
-      pub walk_bad : (s : Stood) → StandsAfter w.before text s → not s.good ≡ true → Told (KeptText whole) false
-      walk_bad s a b = told_no (λ k. clash (sym (not-true s.good b) ∙ a.told.complete (there k).0))
+      -- whether it may stand, and the codes that are seen then
+      module _ {good : Bool} {next : List Bool} (a : StandsAfter w.before text good next) where
+        pub walk_bad : good ≡ false → Told (KeptText whole) false
+        walk_bad b = told_no (λ k. clash (sym b ∙ a.told.complete (there k).0))
 
-      pub walk_on : (s : Stood) → StandsAfter w.before text s → s.good ≡ true → Walked whole (r + 1) s.seen
-      walk_on s a b =
-          let g = a.told.sound b in
-          record {
-            within = omega arith;
-            before = w.before ++ (text ∷ []);
-            stood = a.seen b;
-            on = λ l. w.on (subst (Left w.before) (sym parts) (left-next w.before text (drop (r + 1) whole) g.0 g.1 l));
-            back = λ k. (there k).1;
-          }
+        pub walk_on : good ≡ true → Walked whole (r + 1) next
+        walk_on b =
+            let g = a.told.sound b in
+            record {
+              within = omega arith;
+              before = w.before ++ (text ∷ []);
+              stood = a.seen_is b;
+              on = λ l. w.on (subst (Left w.before) (sym parts) (left-next w.before text (drop (r + 1) whole) g.0 g.1 l));
+              back = λ k. (there k).1;
+            }

@@ -4,29 +4,31 @@
 
 ghost use Rattle.std.specs.Prelude.{◌≡◌, List, ℕ, ◌≤◌, length, take};
 ghost use Rattle.law.specs.Sizes.{most_text};
+ghost use Rattle.law.specs.Text.{SpellsText};
+ghost use Rattle.law.specs.Items.{kind_of, kept-text};
 ghost use Rattle.law.specs.Lawful.{KeptLine};
 ghost use Rattle.join.proofs.Codes.{seen_of};
 ghost use Rattle.texts.specs.Kept.{KeptText, Told};
-ghost use Rattle.texts.specs.Stood.{is_text, StandsAfter};
+ghost use Rattle.texts.specs.Stood.{StandsAfter};
 
-use records::{Kind, Text};
+use records::Kind;
 use steps::{REPEATED, TEXT_CODES};
 use types::MOST_LINE;
 
-// Whether a line may stand after others, and the codes that have stood then.
-#[derive(Drop)]
-struct Stood {
-    good: bool,
-    seen: [bool; TEXT_CODES],
+// Whether a line is one of the sixteen records, by its kind.
+fn is_text(line: &[u8]) -> bool
+    ensures { Told (kind_of line.now ≡ kept-text) result }
+{
+    matches!(records::kind_of(line), Ok(Kind::KeptText))
 }
 
-// Whether a line is one of the sixteen records, by its kind.
-fn is_text(kind: Kind) -> bool
-    ensures { result ≡ is_text kind }
+// Whether all of such a line is kept: no blank trails.
+fn is_whole(line: &[u8]) -> bool
+    ensures { Told (SpellsText line.now line.now) result }
 {
-    match kind {
-        Kind::KeptText => true,
-        _ => false,
+    match records::text_of(line) {
+        Ok(n) => n == line.len(),
+        Err(_) => false,
     }
 }
 
@@ -34,42 +36,25 @@ fn is_text(kind: Kind) -> bool
 fn is_kept_line(line: &[u8]) -> bool
     ensures { Told (KeptLine line.now) result }
 {
-    if MOST_LINE < line.len() {
-        return false;
-    }
-    if !lines::all_allowed(line) {
-        return false;
-    }
-    let kind = records::kind_of(line);
-    if !is_text(kind) {
-        return false;
-    }
-    let Text::Kept(n) = records::text_of(line) else {
-        return false;
-    };
-    n == line.len()
+    line.len() <= MOST_LINE && lines::all_allowed(line) && is_text(line) && is_whole(line)
 }
 
-// A line after others, whose codes are `seen`: it is kept as it stands, and its code has not stood, unless that is 112.
-fn stand(line: &[u8], seen: [bool; TEXT_CODES]) -> Stood
-    ensures { (before : List (List ℕ)) → seen ≡ seen_of before → StandsAfter before line.now result }
+// Whether a line may stand after others, whose codes are `seen`: it is kept as it stands, and its code has not stood, unless that is 112. Then its code is seen.
+fn stand(line: &[u8], seen: &mut [bool; TEXT_CODES]) -> bool
+    ensures { (before : List (List ℕ)) → seen.old ≡ seen_of before → StandsAfter before line.now result seen.new }
 {
     if !is_kept_line(line) {
-        return Stood { good: false, seen };
+        return false;
     }
     let place = steps::text_place(line);
-    if (place != REPEATED) & seen[place] {
-        return Stood { good: false, seen };
+    if place != REPEATED && seen[place] {
+        return false;
     }
-    let mut more = seen;
-    more[place] = true;
-    Stood {
-        good: true,
-        seen: more,
-    }
+    seen[place] = true;
+    true
 }
 
-// Whether all of it is kept text, line by line. What stands after the last CR is no line.
+// Whether all of it is kept text, line by line. What stands after the last CR is no line. A `while`, since a step is a line.
 fn is_whole_text(text: &[u8]) -> bool
     ensures { Told (KeptText text.now) result }
 {
@@ -77,14 +62,9 @@ fn is_whole_text(text: &[u8]) -> bool
     let mut at = 0;
     while at < text.len() {
         let to = lines::cr_from(text, at);
-        if text.len() <= to {
+        if text.len() <= to || !stand(&text[at..to], &mut seen) {
             return false;
         }
-        let stood = stand(&text[at..to], seen);
-        if !stood.good {
-            return false;
-        }
-        seen = stood.seen;
         at = to + 1;
     }
     seen[0]

@@ -1,15 +1,13 @@
 -- What a search answers, by what its pure definition gives. `as_placed` of index is the third of them, for a player.
-use Rattle.std.proofs.Math.Option.{Option, none, some}
-use Rattle.std.specs.Prelude.{ℕ}
-use Rattle.turns.specs.declared.FoundTurn.{FoundTurn}
-use Rattle.turns.specs.declared.FoundTurn.TheVariants as turns
-use Rattle.turns.specs.declared.FoundRecord.{FoundRecord}
-use Rattle.turns.specs.declared.FoundRecord.TheVariants as records
+use Rattle.std.proofs.Math.Option as maybe
+use Rattle.std.specs.Prelude.{ℕ, Option, Some, None}
+use Rattle.turns.specs.declared.Turn.{Turn}
+use Rattle.turns.specs.declared.RecordNumber.{RecordNumber}
 
-abbrev pub as_found_turn : Option ℕ → FoundTurn
-as_found_turn none = turns.Nothing
-as_found_turn (some k) = turns.At (record { 0 = k })
+abbrev pub as_found_turn : maybe.Option ℕ → Option Turn
+as_found_turn maybe.none = None
+as_found_turn (maybe.some k) = Some (record { 0 = k })
 
-abbrev pub as_found_record : Option ℕ → FoundRecord
-as_found_record none = records.Nothing
-as_found_record (some j) = records.At (record { 0 = j })
+abbrev pub as_found_record : maybe.Option ℕ → Option RecordNumber
+as_found_record maybe.none = None
+as_found_record (maybe.some j) = Some (record { 0 = j })

@@ -1,4 +1,4 @@
-// Turns: a search looks at the entries player by player and each round by round. Here are the place and the round of a turn, and what a search answers. Promised:
+// Turns: a search looks at the entries player by player and each round by round. Here are the place and the round of a turn. What a search finds is a turn or a record, or None. Promised:
 // the order is join's.
 #![tactic(auto)]
 
@@ -16,30 +16,18 @@ pub struct Turn(pub usize);
 #[derive(Clone, Copy)]
 pub struct RecordNumber(pub usize);
 
-// The turn that a search found.
-#[derive(Clone, Copy)]
-pub enum FoundTurn {
-    At(Turn),
-    Nothing,
-}
+impl Turn {
+    // The place and the round of a turn.
+    pub fn place(self) -> Place
+        requires { self.0 < entry_cells }
+        ensures { result.0 ≡ place_at self.0 }
+    {
+        Place((self.0 / MOST_ROUNDS) as u32)
+    }
 
-// The acceleration record that a search found.
-#[derive(Clone, Copy)]
-pub enum FoundRecord {
-    At(RecordNumber),
-    Nothing,
-}
-
-// The place and the round of a turn.
-pub fn place_at(turn: Turn) -> Place
-    requires { turn.0 < entry_cells }
-    ensures { result.0 ≡ place_at turn.0 }
-{
-    Place((turn.0 / MOST_ROUNDS) as u32)
-}
-
-pub fn round_at(turn: Turn) -> u32
-    ensures { result ≡ round_at turn.0 }
-{
-    (turn.0 % MOST_ROUNDS) as u32 + 1
+    pub fn round(self) -> u32
+        ensures { result ≡ round_at self.0 }
+    {
+        (self.0 % MOST_ROUNDS) as u32 + 1
+    }
 }

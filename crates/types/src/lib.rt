@@ -1,6 +1,9 @@
-// The four counts that must not be taken for one another, what the public calls answer, and the sizes that the box carries, each named here once. Numbers of refusals are document 01's; an acceptance has 0
+// The four counts that must not be taken for one another, why a call refuses, what the public calls answer, and the sizes that the box carries, each named here once. An acceptance has 0
 // in number, line and round, a refusal 0 in everything else.
 #![tactic(auto)]
+
+ghost use Rattle.std.specs.Prelude.{◌≡◌};
+ghost use Rattle.types.specs.Faults.{number_of, nowhere};
 
 // A player's number in the event, 1 to 9999: what an entry names its opponent by.
 #[repr(C)]
@@ -22,6 +25,61 @@ pub struct Rank(pub u32);
 #[derive(Clone, Copy)]
 pub struct LineNumber(pub u32);
 
+// Why a call refuses what it is given: document 01's refusals, by their numbers there.
+#[derive(Clone, Copy)]
+pub enum Fault {
+    TableShort = 1,
+    FileBig = 2,
+    BadByte = 3,
+    NoCr = 4,
+    LineLong = 5,
+    Unlisted = 6,
+    BadField = 7,
+    Again = 8,
+    TooMany = 9,
+    Incomplete = 10,
+    PastRounds = 11,
+    NoEntry = 12,
+    NotMutual = 13,
+    Misfit = 14,
+    SecondU = 15,
+    WrongSum = 16,
+    Overlap = 17,
+    NoReading = 18,
+    OutShort = 19,
+    NoPlace = 20,
+}
+
+impl Fault {
+    // Document 01's number.
+    pub fn number(self) -> u32
+        ensures { result ≡ number_of self }
+    {
+        self as u32
+    }
+}
+
+// A refusal: why, and where; line and round are 0 where there is none.
+#[derive(Clone, Copy)]
+pub struct Refusal {
+    pub fault: Fault,
+    pub line: LineNumber,
+    pub round: u32,
+}
+
+// A refusal of a whole call or file, which has no line and no round.
+impl From<Fault> for Refusal {
+    ghost from_gives = { λ fault refusal. refusal ≡ nowhere fault };
+
+    fn from(fault: Fault) -> Refusal {
+        Refusal {
+            fault,
+            line: LineNumber(0),
+            round: 0,
+        }
+    }
+}
+
 // One 250 record: points in tenths for the start numbers and rounds from first to last.
 #[repr(C)]
 #[derive(Clone, Copy)]
@@ -33,7 +91,7 @@ pub struct Acceleration {
     pub last_start: u32,
 }
 
-// What a reading answers: the refusal, or the counts, the bytes of kept text, the initial colour (0 if none) and the values of W D L A P X in tenths.
+// What a reading answers: the refusal (0 if none, since C has no Option), or the counts, the bytes of kept text, the initial colour (0 if none) and the values of W D L A P X in tenths.
 #[repr(C)]
 #[derive(Clone, Copy)]
 pub struct Answer {

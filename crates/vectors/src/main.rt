@@ -4,70 +4,47 @@
 //     <NAME        the listing of the file that has the name
 #![tactic(auto)]
 
-use drafts::{Draft, MOST_ROWS, ROOM};
-use listed::Printed;
+use drafts::Draft;
+use listed::Failure;
 use std::fs::File;
 use std::{io, str};
 
-fn list_draft(rt: &HostRuntime, name: &[u8], file: &[u8], d: Draft) {
-    let end = drafts::file_end(d, file);
+fn list_draft(rt: &HostRuntime, name: &[u8], file: &[u8]) {
     drafts::print_name(rt, name);
-    let _ = listed::print_listing(&rt.stdout(), &rt.stderr(), &file[..end]);
+    let _ = listed::print_listing(&rt.stdout(), &rt.stderr(), file);
 }
 
 // A name that is no text is no file's.
 fn open_named(rt: &HostRuntime, name: &[u8]) -> io::Result<File> {
-    match str::from_utf8(name) {
-        Ok(name) => File::open(rt, name),
-        Err(_) => Err(io::Error::from(io::ErrorKind::InvalidFilename)),
+    let name = str::from_utf8(name).map_err(|_| io::Error::from(io::ErrorKind::InvalidFilename))?;
+    File::open(rt, name)
+}
+
+// The listing of a file, or why it cannot be read.
+fn list_opened(rt: &HostRuntime, name: &[u8]) -> io::Result<()> {
+    let mut file = open_named(rt, name)?;
+    match listed::print_input(&mut file, &rt.stdout(), &rt.stderr()) {
+        Err(Failure::Unread(e)) => Err(e),
+        _ => Ok(()),
     }
 }
 
-// A file, or why it cannot be read.
 fn list_named(rt: &HostRuntime, name: &[u8]) {
-    let err = rt.stderr();
     drafts::print_name(rt, name);
-    match open_named(rt, name) {
-        Ok(mut file) => {
-            if let Printed::Unread(e) = listed::print_input(&mut file, &rt.stdout(), &err) {
-                listed::print_failure(&err, name, e);
-            }
-        }
-        Err(e) => listed::print_failure(&err, name, e),
+    if let Err(e) = list_opened(rt, name) {
+        listed::print_failure(&rt.stderr(), name, e);
     }
 }
 
-// What a row does: the draft after it.
-fn take_row(rt: &HostRuntime, file: &mut [u8; ROOM], d: Draft, row: &[u8]) -> Draft {
-    let first = drafts::first_of(row);
-    let from = drafts::after_blanks(row, 1);
-    if first == b'!' {
-        list_draft(rt, &row[from..], file, d);
-        return d;
-    }
-    if first == b'<' {
-        list_named(rt, &row[from..]);
-        return d;
-    }
-    drafts::put_row(file, d, row)
-}
-
-fn take_rows(rt: &HostRuntime, rows: &[u8]) {
-    let mut file = [0u8; ROOM];
-    let mut draft = drafts::nothing();
-    let mut from = 0;
-    while from < rows.len() {
-        let end = drafts::end_of(rows, from, b'\n');
-        draft = take_row(rt, &mut file, draft, &rows[from..end]);
-        if end == rows.len() {
-            return;
-        }
-        from = end + 1;
+// What a row does.
+fn take_row(rt: &HostRuntime, draft: &mut Draft, row: &[u8]) {
+    match row {
+        [b'!', name @ ..] => list_draft(rt, drafts::without_blanks(name), draft.file()),
+        [b'<', name @ ..] => list_named(rt, drafts::without_blanks(name)),
+        _ => draft.put_row(row),
     }
 }
 
 fn main(rt: HostRuntime) {
-    let mut rows = [0u8; MOST_ROWS];
-    let n = drafts::read_rows(&mut rt.stdin(), &mut rows);
-    take_rows(&rt, &rows[..n]);
+    drafts::take_rows(&mut rt.stdin(), |draft, row| take_row(&rt, draft, row));
 }

@@ -1,212 +1,114 @@
-// What the checks found, as refusals: number, line and round, the line read from the lent list. Promised: each answers a part of join's verdict.
+// What the checks found, as refusals: why, line and round, the line read from the lent list. Promised: each answers a part of join's verdict.
 #![tactic(auto)]
 
-ghost use Rattle.std.specs.Prelude.{◌≡◌, true, ℕ, ◌+◌, ◌*◌, ◌≤◌, length, get_or};
-ghost use Rattle.std.proofs.Math.Option.{Option, none};
+ghost use Rattle.std.specs.Prelude.{◌≡◌, true, ℕ, ◌+◌, ◌*◌, ◌≤◌, ◌<◌, length, get_or};
+ghost use Rattle.std.proofs.Math.Option as maybe;
 ghost use Rattle.kit.specs.Decides.{to};
 ghost use Rattle.law.specs.Sizes.{most_players, most_rounds, most_accelerations};
-ghost use Rattle.law.specs.Tables.{entry_cells, line_cells};
+ghost use Rattle.law.specs.Tables.{entry_cells};
 ghost use Rattle.law.specs.Refusals.{refusal, file_fault_number, past_142, shared, wrong_sum_lem};
+ghost use Rattle.types.specs.Faults.{number_of};
 ghost use Rattle.join.specs.Grid.{first_from};
 ghost use Rattle.join.specs.Check.{past_cell, shared_record, wrong_sum, broken_cell, at_player};
 ghost use Rattle.join.specs.Store.{Nine};
-ghost use Rattle.turns.specs.Found.{as_found_turn};
-ghost use Rattle.index.specs.Index.{Indexed};
 ghost use Rattle.closings.specs.Values.{are_small};
-ghost use Rattle.checks.specs.Laws.{Long, as_law, four};
-ghost use Rattle.verdicts.specs.Verdict.{as_verdict, law_number, unlawful_in, FoundUnder};
+ghost use Rattle.checks.specs.Laws.{as_law, fault_of, four_of};
+ghost use Rattle.turns.specs.Found.{as_found_turn};
+ghost use Rattle.verdicts.specs.Verdict.{refusal_in, FoundUnder, unlawful_in};
 
 use checks::LawKind;
-use index::{Placed, START_CELLS};
-use turns::{FoundRecord, FoundTurn};
-use types::{Acceleration, LineNumber, MOST_ACCELERATIONS, MOST_PLAYERS, VALUES};
+use index::Entries;
+use tables::{LineNumbers, Tables};
+use turns::Turn;
+use types::{Acceleration, Fault, Refusal, VALUES};
 
-// A refusal by its number, line and round; zeros where there is none.
-#[derive(Drop)]
-pub struct Verdict {
-    pub number: u32,
-    pub line: LineNumber,
-    pub round: u32,
-}
-
-fn nothing() -> Verdict
-    ensures { result ≡ as_verdict none }
+// The refusal of a turn that was found: its player's line, and its round.
+fn at_turn(fault: Fault, lines: &LineNumbers<'_>, found: Option<Turn>) -> Result<(), Refusal>
+    requires { FoundUnder found entry_cells }
+    ensures { (o : maybe.Option ℕ) → found ≡ as_found_turn o → refusal_in result ≡ to (at_player (number_of fault) lines.now.numbers.now) o }
 {
-    Verdict {
-        number: 0,
-        line: LineNumber(0),
-        round: 0,
-    }
-}
-
-// The refusal of a turn: its player's line, and its round.
-fn at_turn(number: u32, lines: &[u32], found: FoundTurn) -> Verdict
-    requires { (line_cells ≤ length lines.now) × FoundUnder found entry_cells }
-    ensures { (o : Option ℕ) → found ≡ as_found_turn o → result ≡ as_verdict (to (at_player number lines.now) o) }
-{
-    let FoundTurn::At(turn) = found else {
-        return nothing();
+    let Some(turn) = found else {
+        return Ok(());
     };
-    let place = turns::place_at(turn);
-    let round = turns::round_at(turn);
-    let i = tables::own_cell(place);
-    Verdict {
-        number,
-        line: LineNumber(lines[i]),
-        round,
-    }
+    Err(Refusal {
+        fault,
+        line: lines.of_player(turn.place()),
+        round: turn.round(),
+    })
 }
 
 // 11: a cell past the rounds that there are.
-pub fn past(colours: &[u8], lines: &[u32], n: usize, rounds: u32) -> Verdict
-    requires { (n ≤ most_players) × (entry_cells ≤ length colours.now) × (line_cells ≤ length lines.now) }
-    ensures { result ≡ as_verdict (to (at_player (file_fault_number past_142) lines.now) (first_from (past_cell rounds colours.now) 0 (n * most_rounds))) }
+pub fn past(
+    tables: &Tables<'_>,
+    lines: &LineNumbers<'_>,
+    n: usize,
+    rounds: u32,
+) -> Result<(), Refusal>
+    requires { n ≤ most_players }
+    ensures { refusal_in result ≡ to (at_player (file_fault_number past_142) lines.now.numbers.now) (first_from (past_cell rounds tables.now.colours.now) 0 (n * most_rounds)) }
 {
-    if glances::none_past(colours, n, rounds) {
-        return nothing();
+    if glances::none_past(tables, n, rounds) {
+        return Ok(());
     }
-    at_turn(11, lines, closings::first_past(colours, n, rounds))
+    let found = closings::first_past(tables, n, rounds);
+    at_turn(Fault::PastRounds, lines, found)
 }
 
 // 17: a record that shares with an earlier one, by the record's line.
-pub fn sharing(records: [Acceleration; MOST_ACCELERATIONS], n: usize, lines: &[u32]) -> Verdict
-    requires { (n ≤ most_accelerations) × (line_cells ≤ length lines.now) }
-    ensures { result ≡ as_verdict (to (λ j. refusal (file_fault_number shared) (get_or lines.now (most_players + j) 0) 0) (first_from (shared_record records) 0 n)) }
+pub fn sharing(records: &[Acceleration], lines: &LineNumbers<'_>) -> Result<(), Refusal>
+    requires { length records.now ≤ most_accelerations }
+    ensures { refusal_in result ≡ to (λ j. refusal (file_fault_number shared) (get_or lines.now.numbers.now (most_players + j) 0) 0) (first_from (shared_record records.now) 0 (length records.now)) }
 {
-    let FoundRecord::At(number) = closings::first_shared(records, n) else {
-        return nothing();
+    let Some(number) = closings::first_shared(records) else {
+        return Ok(());
     };
-    Verdict {
-        number: 17,
-        line: LineNumber(lines[MOST_PLAYERS + number.0]),
+    Err(Refusal {
+        fault: Fault::Overlap,
+        line: lines.of_record(number.0),
         round: 0,
-    }
+    })
 }
 
 // 16: points that are not the sum, by the player's line.
 pub fn wrong_points(
-    points: &[u32],
-    results: &[u8],
+    tables: &Tables<'_>,
     values: [u32; VALUES],
-    lines: &[u32],
+    lines: &LineNumbers<'_>,
     n: usize,
     rounds: u32,
-) -> Verdict
-    requires n_le_most_players { (n ≤ most_players) × (rounds ≤ most_rounds) × (most_players ≤ length points.now) × (entry_cells ≤ length results.now) × (are_small values ≡ true) }
-    requires line_cells_in_bounds { line_cells ≤ length lines.now }
-    ensures { result ≡ as_verdict (to (λ p. refusal (file_fault_number wrong_sum_lem) (get_or lines.now p 0) 0) (first_from (wrong_sum values points.now results.now rounds) 0 n)) }
+) -> Result<(), Refusal>
+    requires players { n ≤ most_players }
+    requires rounds { rounds ≤ most_rounds }
+    requires small { are_small values ≡ true }
+    ensures { refusal_in result ≡ to (λ p. refusal (file_fault_number wrong_sum_lem) (get_or lines.now.numbers.now p 0) 0) (first_from (wrong_sum values tables.now.points.now tables.now.results.now rounds) 0 n) }
 {
-    let Placed::At(place) = closings::first_wrong_sum(points, results, values, n, rounds) else {
-        return nothing();
+    let Some(place) = closings::first_wrong_sum(tables, values, n, rounds) else {
+        return Ok(());
     };
-    let i = tables::own_cell(place);
-    Verdict {
-        number: 16,
-        line: LineNumber(lines[i]),
+    Err(Refusal {
+        fault: Fault::WrongSum,
+        line: lines.of_player(place),
         round: 0,
-    }
-}
-
-fn law_number(kind: LawKind) -> u32
-    ensures { result ≡ law_number kind }
-{
-    match kind {
-        LawKind::ByeOrGame => 12,
-        LawKind::Mutual => 13,
-        LawKind::Fitting => 14,
-        LawKind::OneU => 15,
-    }
+    })
 }
 
 // The first turn whose entry breaks a law, refused by that law's number.
-fn broken(
-    kind: LawKind,
-    starts: &[u32],
-    opponents: &[u32],
-    colours: &[u8],
-    results: &[u8],
-    lines: &[u32],
-    index: &[u8; START_CELLS],
-    n: usize,
-    rounds: u32,
-) -> Verdict
-    requires long { Long starts.now opponents.now colours.now results.now × Indexed starts.now n index.now }
-    requires line_cells_in_bounds { line_cells ≤ length lines.now }
-    ensures { result ≡ as_verdict (to (at_player (law_number kind) lines.now) (first_from (broken_cell (as_law kind) n rounds (four starts.now opponents.now colours.now results.now)) 0 (n * most_rounds))) }
+fn broken(kind: LawKind, entries: &Entries<'_, '_>, lines: &LineNumbers<'_>) -> Result<(), Refusal>
+    ensures { refusal_in result ≡ to (at_player (number_of (fault_of kind)) lines.now.numbers.now) (first_from (broken_cell (as_law kind) entries.now.players entries.now.rounds (four_of entries.now)) 0 (entries.now.players * most_rounds)) }
 {
-    let found = checks::first_broken(kind, starts, opponents, colours, results, index, n, rounds);
-    at_turn(law_number(kind), lines, found)
+    let found = checks::first_broken(kind, entries);
+    at_turn(Fault::from(kind), lines, found)
 }
 
 // 12 to 15, in their order. Where one look finds every entry lawful there is nothing to search for.
-pub fn first_unlawful(
-    starts: &[u32],
-    opponents: &[u32],
-    colours: &[u8],
-    results: &[u8],
-    lines: &[u32],
-    index: &[u8; START_CELLS],
-    n: usize,
-    rounds: u32,
-) -> Verdict
-    requires long { Long starts.now opponents.now colours.now results.now × Indexed starts.now n index.now }
-    requires line_cells_in_bounds { line_cells ≤ length lines.now }
-    ensures { (y : Nine) → y.starts ≡ starts.now → y.opponents ≡ opponents.now → y.colours ≡ colours.now → y.results ≡ results.now → y.lines ≡ lines.now → result ≡ as_verdict (unlawful_in n rounds y) }
+pub fn first_unlawful(entries: &Entries<'_, '_>, lines: &LineNumbers<'_>) -> Result<(), Refusal>
+    ensures { (y : Nine) → y.starts ≡ entries.now.tables.starts.now → y.opponents ≡ entries.now.tables.opponents.now → y.colours ≡ entries.now.tables.colours.now → y.results ≡ entries.now.tables.results.now → y.lines ≡ lines.now.numbers.now → refusal_in result ≡ unlawful_in entries.now.players entries.now.rounds y }
 {
-    if glances::all_lawful(starts, opponents, colours, results, index, n, rounds) {
-        return nothing();
+    if glances::all_lawful(entries) {
+        return Ok(());
     }
-    let game = broken(
-        LawKind::ByeOrGame,
-        starts,
-        opponents,
-        colours,
-        results,
-        lines,
-        index,
-        n,
-        rounds,
-    );
-    if game.number != 0 {
-        return game;
-    }
-    let mutual = broken(
-        LawKind::Mutual,
-        starts,
-        opponents,
-        colours,
-        results,
-        lines,
-        index,
-        n,
-        rounds,
-    );
-    if mutual.number != 0 {
-        return mutual;
-    }
-    let fitting = broken(
-        LawKind::Fitting,
-        starts,
-        opponents,
-        colours,
-        results,
-        lines,
-        index,
-        n,
-        rounds,
-    );
-    if fitting.number != 0 {
-        return fitting;
-    }
-    broken(
-        LawKind::OneU,
-        starts,
-        opponents,
-        colours,
-        results,
-        lines,
-        index,
-        n,
-        rounds,
-    )
+    broken(LawKind::ByeOrGame, entries, lines)?;
+    broken(LawKind::Mutual, entries, lines)?;
+    broken(LawKind::Fitting, entries, lines)?;
+    broken(LawKind::OneU, entries, lines)
 }

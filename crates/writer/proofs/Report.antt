@@ -21,17 +21,12 @@ use Rattle.puts.specs.Ends.{as_end, end_wide, ended_by, relined}
 use Rattle.puts.specs.declared.Terminator.{Terminator}
 use Rattle.heads.specs.Lines.{scoring_in, acceleration_wide}
 use Rattle.player_lines.specs.Lines.{player_wide}
-use Rattle.player_lines.specs.Rows.{Long, seven_of, entries_in, player_in, players_in}
+use Rattle.player_lines.specs.Rows.{seven_of, entries_in, player_in, players_in}
 use Rattle.writer.specs.Report.{Fit, colour_text, heads_text, report_text, text_wide, report_wide}
 use Rattle.writer.proofs.Written.{written_parts, written-wide, text-relined}
 
 pub good_fit : {a : Answer} {t : Tables} → GoodReading a t → Fit a
 good_fit g = record { players = g.answer.players_fit; rounds = g.answer.rounds_fit; accelerations = g.answer.accelerations_fit; text = g.answer.text_fits }
-
-pub lent-long : (t : Tables) → enough t ≡ true → Long (seven_of t)
-lent-long t e =
-    let r = rooms-are t e in
-    record { starts = r.starts; points = r.points; ranks = r.ranks; kept = r.kept; opponents = r.opponents; colours = r.colours; results = r.results }
 
 -- three parts before two others
 three : (a b c d : List ℕ) → (a ++ (b ++ c)) ++ d ≡ a ++ (b ++ (c ++ d))

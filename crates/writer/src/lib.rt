@@ -7,15 +7,15 @@ ghost use Rattle.law.specs.Sizes.{most_line, most_players, most_rounds, most_tex
 ghost use Rattle.law.specs.Writing.{rounds_line};
 ghost use Rattle.law.specs.Refusals.{refusal, no_refusal};
 ghost use Rattle.law.specs.Calls.{written_answer, end_of, Writes};
-ghost use Rattle.types.specs.declared.Acceleration as lists;
-ghost use Rattle.lawful.specs.Given.{tables_of, Given};
+ghost use Rattle.types.specs.Faults.{number_of};
+ghost use Rattle.lawful.specs.Given.{tables_of, tables_in};
 ghost use Rattle.puts.specs.Puts.{Puts};
 ghost use Rattle.puts.specs.Ends.{as_end, end_wide, kept_text, relined};
-ghost use Rattle.player_lines.specs.Rows.{Long, lent};
 ghost use Rattle.writer.specs.Report.{Fit, colour_text, heads_text, heads_wide, report_text, report_wide};
 
 use puts::Terminator;
-use types::{Acceleration, Answer, CR, LineNumber, MOST_ACCELERATIONS, VALUES, Written};
+use tables::Tables;
+use types::{Acceleration, Answer, CR, Fault, LineNumber, MOST_ACCELERATIONS, VALUES, Written};
 
 // How many bytes the lines have: 142 up to its number, 152, 162, 250, 001 up to the rank, and a round of it.
 const BEFORE_ROUNDS: usize = 4;
@@ -35,41 +35,37 @@ fn ending(cr_alone: bool) -> Terminator
     ensures { as_end result ≡ end_of cr_alone }
 {
     if cr_alone {
-        return Terminator::Cr;
+        Terminator::Cr
+    } else {
+        Terminator::CrLf
     }
-    Terminator::CrLf
 }
 
 // How many bytes end a line; `puts::put_end` puts them.
 fn end_wide(end: Terminator) -> usize
     ensures { (result ≡ end_wide end) × (result ≤ most_line) }
 {
-    if let Terminator::CrLf = end {
-        return 2;
+    match end {
+        Terminator::CrLf => 2,
+        Terminator::Cr => 1,
     }
-    1
 }
 
 // How many bytes a byte of the kept text is written in; `puts::put_text` puts it.
 fn kept_wide(c: u8, end: Terminator) -> u16
     ensures { (result ≡ length (kept_text end c)) × (result ≤ 2) }
 {
-    if c == CR {
-        return end_wide(end) as u16;
-    }
-    1
+    if c == CR { end_wide(end) as u16 } else { 1 }
 }
 
-// How many bytes the first n of the kept text are written in. Added up in sixteen bits, so that the compiler takes eight bytes at a time.
-fn text_wide(text: &[u8], n: usize, end: Terminator) -> usize
-    requires { (n ≤ most_text) × (n ≤ length text.now) }
-    ensures { (result ≡ length (relined end (take n text.now))) × (result ≤ most_text + most_text) }
+// How many bytes a kept text is written in. Added up in sixteen bits, so that the compiler takes eight bytes at a time.
+fn text_wide(text: &[u8], end: Terminator) -> usize
+    requires { length text.now ≤ most_text }
+    ensures { (result ≡ length (relined end text.now)) × (result ≤ most_text + most_text) }
 {
     let mut wide: u16 = 0;
-    let mut i = 0;
-    while i < n {
-        wide += kept_wide(text[i], end);
-        i += 1;
+    for c in text {
+        wide += kept_wide(*c, end);
     }
     wide as usize
 }
@@ -80,9 +76,10 @@ fn rounds_wide(rounds: u32) -> usize
     ensures { (result ≡ length (rounds_line rounds)) × (result ≤ most_line) }
 {
     if rounds < 10 {
-        return BEFORE_ROUNDS + 1;
+        BEFORE_ROUNDS + 1
+    } else {
+        BEFORE_ROUNDS + 2
     }
-    BEFORE_ROUNDS + 2
 }
 
 // How many bytes 152 has with its terminator, if the colour is known.
@@ -104,11 +101,11 @@ fn lines_wide(n: u32, wide: usize, end: Terminator) -> usize
 }
 
 // How many bytes a reading is written in.
-fn written_length(answer: Answer, text: &[u8], end: Terminator) -> usize
-    requires { Fit answer × (most_text ≤ length text.now) }
-    ensures { result ≡ report_wide answer text.now end }
+fn written_length(answer: Answer, tables: &Tables<'_>, end: Terminator) -> usize
+    requires { Fit answer }
+    ensures { result ≡ report_wide answer tables.now.text.now end }
 {
-    let kept = text_wide(text, answer.text, end);
+    let kept = text_wide(&tables.text[..answer.text], end);
     let rounds = rounds_wide(answer.rounds) + end_wide(end);
     let colour = colour_wide(answer.colour, end);
     let scoring = SCORING_LINE + end_wide(end);
@@ -149,53 +146,31 @@ fn put_heads(
     puts::put_end(out, at, end)
 }
 
-// The report file of a reading.
+// The report file of a reading. records: the acceleration records, of which the answer says how many there are.
 fn put_report(
     answer: Answer,
-    starts: &[u32],
-    points: &[u32],
-    ranks: &[u32],
-    kept: &[u8],
-    opponents: &[u32],
-    colours: &[u8],
-    results: &[u8],
-    text: &[u8],
-    all: [Acceleration; MOST_ACCELERATIONS],
+    tables: &Tables<'_>,
+    records: &[Acceleration; MOST_ACCELERATIONS],
     end: Terminator,
     out: &mut [u8],
 ) -> usize
     requires fit { Fit answer }
-    requires long { Long (lent starts points ranks kept opponents colours results) × (most_text ≤ length text.now) }
-    requires end_in_bounds { report_wide answer text.now end ≤ length out.old }
-    ensures { Puts (report_text answer (tables_of starts.now points.now ranks.now kept.now opponents.now colours.now results.now text.now all) end) (report_wide answer text.now end) 0 out.old out.new result }
+    requires room { report_wide answer tables.now.text.now end ≤ length out.old }
+    ensures { Puts (report_text answer (tables_in tables.now records.now) end) (report_wide answer tables.now.text.now end) 0 out.old out.new result }
 {
-    let values = answer.values;
-    let at = puts::put_text(out, 0, text, answer.text, end);
-    let at = put_heads(out, at, answer.rounds, answer.colour, values, end);
-    let records = answer.accelerations as usize;
-    let at = heads::put_accelerations(out, at, all, records, end);
-    player_lines::put_players(
-        out,
-        at,
-        answer.players,
-        answer.rounds,
-        starts,
-        points,
-        ranks,
-        kept,
-        opponents,
-        colours,
-        results,
-        end,
-    )
+    let at = puts::put_text(out, 0, &tables.text[..answer.text], end);
+    let at = put_heads(out, at, answer.rounds, answer.colour, answer.values, end);
+    let records = &records[..answer.accelerations as usize];
+    let at = heads::put_accelerations(out, at, records, end);
+    player_lines::put_players(out, at, tables, answer.players, answer.rounds, end)
 }
 
 // The answer of a refusal; and of a writing.
-fn refused(number: u32) -> Written
-    ensures { result ≡ written_answer (refusal number 0 0) 0 }
+fn refused(fault: Fault) -> Written
+    ensures { result ≡ written_answer (refusal (number_of fault) 0 0) 0 }
 {
     Written {
-        number,
+        number: fault.number(),
         line: LineNumber(0),
         round: 0,
         length: 0,
@@ -213,7 +188,7 @@ fn done(length: usize) -> Written
     }
 }
 
-// A writing: the answer and tables of a reading into the output, each line ended with CR LF, or with CR alone. all: the first acceleration records, of which so many are lent.
+// A writing: the answer and tables of a reading into the output, each line ended with CR LF, or with CR alone. C lends each table by itself, and of no length that is known, so that they come one by one.
 pub fn write_core(
     answer: Answer,
     starts: &[u32],
@@ -224,14 +199,13 @@ pub fn write_core(
     colours: &[u8],
     results: &[u8],
     text: &[u8],
-    all: [Acceleration; MOST_ACCELERATIONS],
-    accelerations: usize,
+    accelerations: &[Acceleration],
     cr_alone: bool,
     out: &mut [u8],
 ) -> Written
-    ensures { (records : List lists.Acceleration) → Given accelerations all records → Writes (end_of cr_alone) answer (tables_of starts.now points.now ranks.now kept.now opponents.now colours.now results.now text.now records) out.old result out.new }
+    ensures { Writes (end_of cr_alone) answer (tables_of starts.now points.now ranks.now kept.now opponents.now colours.now results.now text.now accelerations.now) out.old result out.new }
 {
-    let long = tables::enough(
+    if !tables::enough(
         starts.len(),
         points.len(),
         ranks.len(),
@@ -240,22 +214,27 @@ pub fn write_core(
         colours.len(),
         results.len(),
         text.len(),
-        accelerations,
-    );
-    if !long {
-        return refused(1);
-    }
-    if !lawful::is_reading(
-        answer, starts, points, ranks, kept, opponents, colours, results, text, all,
+        accelerations.len(),
     ) {
-        return refused(18);
+        return refused(Fault::TableShort);
+    }
+    let tables = Tables {
+        starts,
+        points,
+        ranks,
+        kept,
+        opponents,
+        colours,
+        results,
+        text,
+    };
+    let records = lent_records::taken(accelerations);
+    if !lawful::is_reading(answer, &tables, &records) {
+        return refused(Fault::NoReading);
     }
     let end = ending(cr_alone);
-    if out.len() < written_length(answer, text, end) {
-        return refused(19);
+    if out.len() < written_length(answer, &tables, end) {
+        return refused(Fault::OutShort);
     }
-    let length = put_report(
-        answer, starts, points, ranks, kept, opponents, colours, results, text, all, end, out,
-    );
-    done(length)
+    done(put_report(answer, &tables, &records, end, out))
 }

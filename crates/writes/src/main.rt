@@ -15,198 +15,125 @@
 
 ghost use Rattle.std.specs.Prelude.{◌≤◌};
 
-use changes::Case;
-use drafts::{Draft, MARK, MOST_ROWS, ROOM};
+use changes::{Case, Part};
+use drafts::{Draft, MARK, Tables};
 use rewritten::MOST_WRITTEN;
-use types::{Acceleration, Answer, CR_ALONE, CR_LF, LINES, MOST_ACCELERATIONS, Place};
+use types::{Acceleration, Answer, CR_ALONE, CR_LF, MOST_ACCELERATIONS, Score, Written};
 
 // The output's bytes.
 const OUT: usize = types::MOST_FILE;
 
-// How much is lent of a table with one cell too many: all of it, or of the short one a cell less than listed.
-fn part(cells: usize, table: u32, c: Case) -> usize
-    ensures { result ≤ cells }
-{
-    if table != c.short {
-        return cells;
-    }
-    if cells < 2 {
-        return cells;
-    }
-    cells - 2
-}
-
 // How many acceleration records are lent.
-fn records_lent(c: Case) -> usize {
-    if c.short == changes::RECORDS {
+fn records_lent(case: Case) -> usize
+    ensures { result ≤ 32 }
+{
+    if case.short == Some(Part::Records) {
         MOST_ACCELERATIONS - 1
     } else {
         MOST_ACCELERATIONS
     }
 }
 
-// n, or all of the output where that is less.
-fn room(n: usize) -> usize
-    ensures { result ≤ 65535 }
-{
-    if n < OUT { n } else { OUT }
-}
-
 // Of a writing: number, length, and the output's changed bytes.
-fn print_written(rt: &impl Print, number: u32, length: usize, out: &[u8; OUT]) {
-    drafts::print_field(rt, b": write ", number as u64);
-    drafts::print_field(rt, b" ", length as u64);
-    let touched = OUT as u64 - drafts::count_bytes(out, MARK);
-    if touched == 0 {
-        drafts::print_text(rt, b" untouched");
-        return;
-    }
-    drafts::print_field(rt, b" touched ", touched);
+fn print_written(rt: &impl Print, written: Written, out: &[u8; OUT]) {
+    let _ = print!(rt; ": write {} {}", written.number, written.length);
+    let _ = match OUT - drafts::count(out, MARK) {
+        0 => print!(rt; " untouched"),
+        touched => print!(rt; " touched {touched}"),
+    };
 }
 
 // Of a question: number, sum and acceleration.
-fn print_score(rt: &impl Print, number: u32, points: u32, acceleration: u32) {
-    drafts::print_field(rt, b"; ask ", number as u64);
-    drafts::print_field(rt, b" ", points as u64);
-    drafts::print_field(rt, b" ", acceleration as u64);
-    drafts::print_text(rt, b"\n");
+fn print_score(rt: &impl Print, score: Score) {
+    let _ = println!(rt;
+        "; ask {} {} {}",
+        score.number, score.points, score.acceleration
+    );
 }
 
 // A writing and a question over parts of the tables.
 fn judge(
     rt: &impl Print,
-    c: Case,
+    case: Case,
     cr_alone: bool,
     answer: Answer,
-    starts: &[u32],
-    points: &[u32],
-    ranks: &[u32],
-    kept: &[u8],
-    opponents: &[u32],
-    colours: &[u8],
-    results: &[u8],
-    text: &[u8],
-    records: [Acceleration; MOST_ACCELERATIONS],
+    tables: &Tables,
+    records: &[Acceleration; MOST_ACCELERATIONS],
 ) {
     let mut out = [MARK; OUT];
-    let of_out = room(c.room);
-    let of_starts = part(starts.len(), changes::STARTS, c);
-    let of_points = part(points.len(), changes::POINTS, c);
-    let of_ranks = part(ranks.len(), changes::RANKS, c);
-    let of_kept = part(kept.len(), changes::KEPT_COLUMNS, c);
-    let of_opponents = part(opponents.len(), changes::OPPONENTS, c);
-    let of_colours = part(colours.len(), changes::COLOURS, c);
-    let of_results = part(results.len(), changes::RESULTS, c);
-    let of_text = part(text.len(), changes::TEXT_BYTES, c);
-    let lent = records_lent(c);
+    let starts = &tables.starts[..case.lent(Part::Starts).cells(drafts::PLAYERS)];
+    let points = &tables.points[..case.lent(Part::Points).cells(drafts::PLAYERS)];
+    let ranks = &tables.ranks[..case.lent(Part::Ranks).cells(drafts::PLAYERS)];
+    let kept = &tables.kept[..case.lent(Part::Kept).cells(drafts::KEPT)];
+    let opponents = &tables.opponents[..case.lent(Part::Opponents).cells(drafts::ENTRIES)];
+    let colours = &tables.colours[..case.lent(Part::Colours).cells(drafts::ENTRIES)];
+    let results = &tables.results[..case.lent(Part::Results).cells(drafts::ENTRIES)];
+    let text = &tables.text[..case.lent(Part::Text).cells(drafts::TEXT)];
+    let records = &records[..records_lent(case)];
     let written = writer::write_core(
         answer,
-        &starts[..of_starts],
-        &points[..of_points],
-        &ranks[..of_ranks],
-        &kept[..of_kept],
-        &opponents[..of_opponents],
-        &colours[..of_colours],
-        &results[..of_results],
-        &text[..of_text],
+        starts,
+        points,
+        ranks,
+        kept,
+        opponents,
+        colours,
+        results,
+        text,
         records,
-        lent,
         cr_alone,
-        &mut out[..of_out],
+        &mut out[..case.room.min(OUT)],
     );
     let score = question::ask_core(
-        answer,
-        &starts[..of_starts],
-        &points[..of_points],
-        &ranks[..of_ranks],
-        &kept[..of_kept],
-        &opponents[..of_opponents],
-        &colours[..of_colours],
-        &results[..of_results],
-        &text[..of_text],
-        records,
-        lent,
-        Place(c.place),
-        c.round,
+        answer, starts, points, ranks, kept, opponents, colours, results, text, records,
+        case.place, case.round,
     );
-    print_written(rt, written.number, written.length, &out);
-    print_score(rt, score.number, score.points, score.acceleration);
+    print_written(rt, written, &out);
+    print_score(rt, score);
 }
 
 // A file read, one thing changed, and the reading judged.
-fn run(rt: &impl Print, c: Case, cr_alone: bool, file: &[u8], other: &[u8]) {
-    let mut starts = [0u32; changes::PLAYERS];
-    let mut points = [0u32; changes::PLAYERS];
-    let mut ranks = [0u32; changes::PLAYERS];
-    let mut kept = [0u8; changes::KEPT];
-    let mut opponents = [0u32; changes::ENTRIES];
-    let mut colours = [0u8; changes::ENTRIES];
-    let mut results = [0u8; changes::ENTRIES];
-    let mut text = [0u8; changes::TEXT];
-    let mut lines = [0u32; LINES];
+fn run(rt: &impl Print, case: Case, cr_alone: bool, file: &[u8], other: &[u8]) {
+    let mut tables = Tables::filled(0);
     let core = reader::read_core(
         file,
-        &mut starts,
-        &mut points,
-        &mut ranks,
-        &mut kept,
-        &mut opponents,
-        &mut colours,
-        &mut results,
-        &mut text,
-        &mut lines,
+        &mut tables.starts,
+        &mut tables.points,
+        &mut tables.ranks,
+        &mut tables.kept,
+        &mut tables.opponents,
+        &mut tables.colours,
+        &mut tables.results,
+        &mut tables.text,
+        &mut tables.lines,
         MOST_ACCELERATIONS,
     );
-    let read = core.answer;
-    let all = core.records;
-    changes::change_tables(
-        c,
-        other,
-        &mut starts,
-        &mut points,
-        &mut ranks,
-        &mut kept,
-        &mut opponents,
-        &mut colours,
-        &mut results,
-        &mut text,
-    );
-    judge(
-        rt,
-        c,
-        cr_alone,
-        changes::change_answer(read, other, c),
-        &starts,
-        &points,
-        &ranks,
-        &kept,
-        &opponents,
-        &colours,
-        &results,
-        &text,
-        changes::change_records(all, c),
-    );
+    let mut answer = core.answer;
+    let mut records = core.records;
+    changes::replace_text(&mut tables, &mut answer, other);
+    if let Some(change) = case.change {
+        change.apply_to_tables(&mut tables);
+        change.apply_to_records(&mut records);
+        change.apply_to_answer(&mut answer);
+    }
+    judge(rt, case, cr_alone, answer, &tables, &records);
 }
 
-fn run_case(rt: &impl Print, row: &[u8], file: &[u8], d: Draft, cr_alone: bool) {
-    let c = changes::case_of(row);
-    let end = drafts::file_end(d, file);
-    let last = drafts::text_end(d, file, end);
-    drafts::print_rest(rt, row, c.name);
-    run(rt, c, cr_alone, &file[..end], &file[end..last]);
+fn run_case(rt: &impl Print, row: &[u8], draft: &Draft, cr_alone: bool) {
+    let case = Case::of_row(row);
+    drafts::print_text(rt, case.name);
+    run(rt, case, cr_alone, draft.file(), draft.other());
 }
 
-fn show(rt: &impl Print, row: &[u8], file: &[u8], d: Draft, cr_alone: bool) {
+fn show(rt: &impl Print, row: &[u8], file: &[u8], cr_alone: bool) {
     let mut out = [0u8; MOST_WRITTEN];
-    let end = drafts::file_end(d, file);
-    let done = rewritten::rewrite_file(&file[..end], cr_alone, &mut out);
-    let n = done.length;
-    drafts::print_rest(rt, row, 1);
-    drafts::print_text(rt, b"\n");
+    let done = rewritten::rewrite_file(file, cr_alone, &mut out);
+    let written = &out[..done.length];
+    drafts::print_name(rt, drafts::without_blanks(row));
     if cr_alone {
-        drafts::print_lines(rt, &out[..n]);
+        drafts::print_lines(rt, written);
     } else {
-        drafts::print_text(rt, &out[..n]);
+        drafts::print_text(rt, written);
     }
 }
 
@@ -215,60 +142,45 @@ fn print_twice(rt: &impl Print, file: &[u8], cr_alone: bool) {
     let mut out = [0u8; MOST_WRITTEN];
     let mut again = [0u8; MOST_WRITTEN];
     let first = rewritten::rewrite_file(file, cr_alone, &mut out);
-    let n = first.length;
-    let second = rewritten::rewrite_file(&out[..n], cr_alone, &mut again);
-    let m = second.length;
-    drafts::print_field(rt, b": ", n as u64);
-    drafts::print_field(rt, b" bytes, CR ", drafts::count_bytes(&out[..n], b'\r'));
-    drafts::print_field(rt, b", LF ", drafts::count_bytes(&out[..n], b'\n'));
-    drafts::print_field(rt, b", written again ", m as u64);
-    if drafts::is_same(&out[..n], &again[..m]) {
-        drafts::print_name(rt, b", the same");
+    let written = &out[..first.length];
+    let second = rewritten::rewrite_file(written, cr_alone, &mut again);
+    let written_again = &again[..second.length];
+    let verdict = if written == written_again {
+        "the same"
     } else {
-        drafts::print_name(rt, b", others");
-    }
+        "others"
+    };
+    let _ = println!(rt;
+        ": {} bytes, CR {}, LF {}, written again {}, {verdict}",
+        written.len(),
+        drafts::count(written, b'\r'),
+        drafts::count(written, b'\n'),
+        written_again.len()
+    );
 }
 
-fn write_twice(rt: &impl Print, row: &[u8], file: &[u8], d: Draft) {
-    let end = drafts::file_end(d, file);
-    drafts::print_rest(rt, row, 1);
+fn write_twice(rt: &impl Print, row: &[u8], file: &[u8]) {
+    let name = drafts::without_blanks(row);
+    drafts::print_text(rt, name);
     drafts::print_text(rt, b", CR LF");
-    print_twice(rt, &file[..end], CR_LF);
-    drafts::print_rest(rt, row, 1);
+    print_twice(rt, file, CR_LF);
+    drafts::print_text(rt, name);
     drafts::print_text(rt, b", CR alone");
-    print_twice(rt, &file[..end], CR_ALONE);
+    print_twice(rt, file, CR_ALONE);
 }
 
-// What a row does: the draft after it.
-fn take_row(rt: &impl Print, file: &mut [u8; ROOM], d: Draft, row: &[u8]) -> Draft {
-    let first = drafts::first_of(row);
-    match first {
-        b'>' => show(rt, row, file, d, CR_LF),
-        b'<' => show(rt, row, file, d, CR_ALONE),
-        b'&' => write_twice(rt, row, file, d),
-        b'!' => run_case(rt, row, file, d, CR_LF),
-        b'?' => run_case(rt, row, file, d, CR_ALONE),
-        _ => return drafts::put_row(file, d, row),
-    }
-    d
-}
-
-fn take_rows(rt: &impl Print, rows: &[u8]) {
-    let mut file = [0u8; ROOM];
-    let mut draft = drafts::nothing();
-    let mut from = 0;
-    while from < rows.len() {
-        let end = drafts::end_of(rows, from, b'\n');
-        draft = take_row(rt, &mut file, draft, &rows[from..end]);
-        if end == rows.len() {
-            return;
-        }
-        from = end + 1;
+// What a row does.
+fn take_row(rt: &impl Print, draft: &mut Draft, row: &[u8]) {
+    match row {
+        [b'>', rest @ ..] => show(rt, rest, draft.file(), CR_LF),
+        [b'<', rest @ ..] => show(rt, rest, draft.file(), CR_ALONE),
+        [b'&', rest @ ..] => write_twice(rt, rest, draft.file()),
+        [b'!', rest @ ..] => run_case(rt, rest, draft, CR_LF),
+        [b'?', rest @ ..] => run_case(rt, rest, draft, CR_ALONE),
+        _ => draft.put_row(row),
     }
 }
 
 fn main(rt: HostRuntime) {
-    let mut rows = [0u8; MOST_ROWS];
-    let n = drafts::read_rows(&mut rt.stdin(), &mut rows);
-    take_rows(&rt, &rows[..n]);
+    drafts::take_rows(&mut rt.stdin(), |draft, row| take_row(&rt, draft, row));
 }

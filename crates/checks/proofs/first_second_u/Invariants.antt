@@ -1,15 +1,10 @@
 -- `checks::first_second_u` meets its contract. The loop's invariant: none of the first k turns has a second U, and the flags tell of them. Assumes nothing.
-use mathlib.Core.List.{[]}
-use Prim.Native.Nat.{◌-◌}
 use Rattle.law.specs.Entries.{one_U}
 use Rattle.join.specs.Check.{broken_cell}
-use Rattle.checks.specs.Laws.{four}
+use Rattle.checks.specs.Laws.{four_of}
 use Rattle.turns.proofs.Seeks.{Seeking}
 use Rattle.checks.proofs.Flags.{Flags}
 use Rattle.checks.proofs.first_second_u.Given as goal
 
 abbrev pub invariant-loop-k : goal.invariant-loop-k
-invariant-loop-k l = Seeking (broken_cell one_U l.n l.rounds (four [] [] [] l.results)) l.end l.k × Flags l.results l.k l.seen
-
-abbrev pub decreases-loop-k : goal.decreases-loop-k
-decreases-loop-k l = l.end - l.k
+invariant-loop-k l = Seeking (broken_cell one_U l.entries.players l.entries.rounds (four_of l.entries)) l.k-end l.k × Flags l.entries.tables.results.now l.k l.seen

@@ -1,24 +1,26 @@
-use mathlib.Core.Path.{sym, ◌∙◌}
-use native.Mathlib.Omega.{arith}
+use mathlib.Core.Path.{ap, ◌∙◌}
+use mathlib.Core.Bool.{not}
 use Rattle.turns.specs.Found.{as_found_turn}
-use Rattle.turns.proofs.Seeks.{seek_none, seek_hit, seek_more, seek_end}
+use Rattle.turns.proofs.Seeks.{seek_hit, seek_more, seek_end}
+use Rattle.checks.proofs.Kept.{broken_past, broken_here}
 use Rattle.checks.proofs.first_unkept.Goals as goal
+use Rattle.checks.proofs.first_unkept.Goals.{else-round-entries-via-then-round-entries+else-not-keeps, else-round-entries-via-else-round-entries}
 
-pub loop-k-init : goal.loop-k-init
-loop-k-init c = seek_none _ _
-
-pub is_broken-requires : goal.is_broken-requires
-is_broken-requires c =
-    let x = c.requires.long.1 in
-    record { fact = c.requires.fact; turn_lt_entry_cells = omega (arith, c.loop-k-test.true, x.few); long = (c.requires.long.0, record { starts = c.args.starts.now; players = c.args.n; indexed = x }); grid = c.requires.grid }
-
-pub returns-then-is_broken : goal.returns-then-is_broken
-returns-then-is_broken c =
-    seek_hit c.loop-k.invariant as_found_turn c.loop-k-test.true (sym (c.is_broken.ensures c.args.n c.requires.long.1) ∙ c.if-is_broken.true)
+pub returns-then-not-keeps : goal.returns-then-not-keeps
+returns-then-not-keeps g c =
+    λ law tells.
+    seek_hit (c.loop-k.invariant law tells) as_found_turn c.loop-k-test.true
+    (broken_here law _ _ _ _ c.round-round.ensures c.if-round-entries.true c.place.ensures (tells _ _ _ c.keeps.ensures) ∙ ap not c.if-not-keeps.true)
 
 pub loop-k-preserved : goal.loop-k-preserved
-loop-k-preserved c =
-    seek_more c.loop-k.invariant c.loop-k-test.true (sym (c.is_broken.ensures c.args.n c.requires.long.1) ∙ c.if-is_broken.false)
+loop-k-preserved g c =
+    λ law tells.
+    seek_more (c.loop-k.invariant law tells) c.loop-k-test.true
+    (elim c.else-round-entries.branch [
+      | else-round-entries-via-then-round-entries+else-not-keeps w ↦
+          broken_here law _ _ _ _ c.round-round.ensures w.if-round-entries.true w.place.ensures (tells _ _ _ w.keeps.ensures) ∙ ap not w.if-not-keeps.false
+      | else-round-entries-via-else-round-entries w ↦ broken_past law _ _ _ _ c.round-round.ensures w.if-round-entries.false
+    ])
 
 pub returns : goal.returns
-returns c = seek_end c.loop-k.invariant as_found_turn c.loop-k-test.false
+returns g c = λ law tells. seek_end (c.loop-k.invariant law tells) as_found_turn c.loop-k-test.false

@@ -6,10 +6,10 @@ pub loop-j-init : goal.loop-j-init
 loop-j-init c = row_none _ _ _ _
 
 pub bounds-t-i : goal.bounds-t-i
-bounds-t-i c = omega (arith, c.cell_of-i.ensures.1, c.requires.1, c.loop-j.invariant.long)
+bounds-t-i c = omega (arith, c.cell_of-i.ensures.1, c.requires.long, c.loop-j.invariant.long)
 
 pub bounds-t-i-in-loop-j : goal.bounds-t-i-in-loop-j
-bounds-t-i-in-loop-j c = omega (arith, c.cell_of-i.ensures.1, c.requires.1, c.loop-j.invariant.long)
+bounds-t-i-in-loop-j c = omega (arith, c.cell_of-i.ensures.1, c.requires.long, c.loop-j.invariant.long)
 
 pub loop-j-preserved : goal.loop-j-preserved
 loop-j-preserved c = row_more c.loop-j.invariant c.loop-j-test.true _ _ c.cell_of-i.ensures.0 c.closed.ensures

@@ -5,4 +5,4 @@ use Rattle.closings.proofs.is_past.Goals as goal
 
 pub returns : goal.returns
 unfolding past_cell
-returns c = rw (c.is_seen-seen.ensures, c.round_at-round.ensures) refl
+returns c = rw (c.is_seen-seen.ensures, c.round-round.ensures) refl

@@ -5,4 +5,4 @@ use Rattle.closings.proofs.is_wrong_sum.Goals as goal
 
 pub returns : goal.returns
 unfolding wrong_sum
-returns c = λ values w. rw (c.sum_by-sum.ensures values w, c.own_cell-i.ensures.0) refl
+returns c = rw (c.points_at.ensures, c.sum_by.ensures) refl

@@ -1,13 +1,18 @@
--- `fields::has_code` meets its contract: the columns are compared one by one. Assumes nothing.
-use mathlib.Core.Path.{sym}
-use Rattle.fields.proofs.Turns.{code_one, code_two, code_all}
+use mathlib.Core.Path.{◌≡◌}
+use lib.ListN.{length}
+use native.Mathlib.Omega.{arith}
+use borrow.Author.Rules.{rules}
+use Rattle.std.proofs.lemmas.Bool.Decides.{nat_tests}
+use Rattle.fields.proofs.Turns.{code_is}
 use Rattle.fields.proofs.has_code.Goals as goal
-
-pub returns-then-column-a : goal.returns-then-column-a
-returns-then-column-a c = sym (code_one _ _ _ _ c.column.result c.column.ensures c.if-column-a.true)
+use Rattle.fields.proofs.has_code.Goals.{then-column-a, else-column-a}
 
 pub returns-then-column-b : goal.returns-then-column-b
-returns-then-column-b c = sym (code_two _ _ _ _ c.column.result c.column.ensures c.if-column-a.false c.column-2.result c.column-2.ensures c.if-column-b.true)
+returns-then-column-b c =
+    let long : length c.args.code.now ≡ 3 = search rules in
+    rw (code_is c.args.line.now c.args.code.now long) (elim c.if-column-a.branch [ then-column-a w ↦ grind (arith, nat_tests, w) | else-column-a w ↦ grind (arith, nat_tests, w) ])
 
-pub returns : goal.returns
-returns c = sym (code_all _ _ _ _ c.column.result c.column.ensures c.if-column-a.false c.column-2.result c.column-2.ensures c.if-column-b.false c.column-3.result c.column-3.ensures)
+pub returns-else-column-b : goal.returns-else-column-b
+returns-else-column-b c =
+    let long : length c.args.code.now ≡ 3 = search rules in
+    rw (code_is c.args.line.now c.args.code.now long) (elim c.if-column-a.branch [ then-column-a w ↦ grind (arith, nat_tests, w) | else-column-a w ↦ grind (arith, nat_tests, w) ])

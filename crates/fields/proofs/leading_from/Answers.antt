@@ -5,33 +5,29 @@ use Prim.Native.Nat.{ℕ, ◌+◌, ◌*◌, ◌-◌}
 use Rattle.law.specs.Columns.{cells}
 use Rattle.law.proofs.FieldsRead.{leading_from}
 use Rattle.fields.specs.Said.{or_bad_field}
-use Rattle.fields.proofs.Columns.{whole, ends}
+use Rattle.fields.proofs.Columns.{ends}
 use Rattle.fields.proofs.Turns.{leading_more, leading-stop, digit-small, worth_more, worth-fits}
-use borrow.Author.Rules.{rules}
 use Rattle.fields.proofs.leading_from.Goals as goal
-
-pub loop-i-init : goal.loop-i-init
-loop-i-init c = (search rules, search rules, whole (leading_from 0) c.args.line.now c.args.from c.args.width)
 
 pub returns-then-blank_at : goal.returns-then-blank_at
 returns-then-blank_at c =
     let a = c.args in
     let x = c.column-c in
-    sym (ap or_bad_field (c.loop-i.invariant.2 ∙ leading-stop a.line.now a.from a.width c.loop-i.i x.result c.loop-i-test.true x.ensures c.loop-i.n
+    sym (ap or_bad_field (c.loop-i.invariant.1 ∙ leading-stop a.line.now a.from a.width c.loop-i.i x.result c.loop-i-test.true x.ensures c.loop-i.n
     (sym c.is_digit.ensures ∙ c.if-not-is_digit.true) true (sym c.blank_at.ensures ∙ c.if-blank_at.true)))
 
 pub returns-then-not-is_digit : goal.returns-then-not-is_digit
 returns-then-not-is_digit c =
     let a = c.args in
     let x = c.column-c in
-    sym (ap or_bad_field (c.loop-i.invariant.2 ∙ leading-stop a.line.now a.from a.width c.loop-i.i x.result c.loop-i-test.true x.ensures c.loop-i.n
+    sym (ap or_bad_field (c.loop-i.invariant.1 ∙ leading-stop a.line.now a.from a.width c.loop-i.i x.result c.loop-i-test.true x.ensures c.loop-i.n
     (sym c.is_digit.ensures ∙ c.if-not-is_digit.true) false (sym c.blank_at.ensures ∙ c.if-blank_at.false)))
 
 pub overflow_mul-n : goal.overflow_mul-n
-overflow_mul-n c = omega (arith, worth-fits c.loop-i.i c.loop-i.n (omega arith) c.loop-i.invariant.1)
+overflow_mul-n c = omega (arith, worth-fits c.loop-i.i c.loop-i.n (omega arith) c.loop-i.invariant.0)
 
 pub overflow_add-n : goal.overflow_add-n
-overflow_add-n c = omega (arith, worth-fits c.loop-i.i c.loop-i.n (omega arith) c.loop-i.invariant.1, c.digit_value.ensures.1)
+overflow_add-n c = omega (arith, worth-fits c.loop-i.i c.loop-i.n (omega arith) c.loop-i.invariant.0, c.digit_value.ensures.1)
 
 pub loop-i-preserved : goal.loop-i-preserved
 loop-i-preserved c =
@@ -39,11 +35,10 @@ loop-i-preserved c =
     let x = c.column-c in
     let d = sym c.is_digit.ensures ∙ c.if-not-is_digit.false in
     let v = c.digit_value.ensures.0 in (
-      search rules,
-      worth_more c.loop-i.n c.digit_value.result c.loop-i.i c.loop-i.invariant.1 (omega (arith, v, digit-small x.result d)),
-      c.loop-i.invariant.2 ∙ leading_more a.line.now a.from a.width c.loop-i.i x.result c.loop-i-test.true x.ensures c.loop-i.n d
+      worth_more c.loop-i.n c.digit_value.result c.loop-i.i c.loop-i.invariant.0 (omega (arith, v, digit-small x.result d)),
+      c.loop-i.invariant.1 ∙ leading_more a.line.now a.from a.width c.loop-i.i x.result c.loop-i-test.true x.ensures c.loop-i.n d
           ∙ ap (λ (k : ℕ). leading_from (c.loop-i.n * 10 + k) (cells a.line.now (a.from + (c.loop-i.i + 1)) (a.width - (c.loop-i.i + 1)))) (sym v),
     )
 
 pub returns : goal.returns
-returns c = sym (ap or_bad_field (c.loop-i.invariant.2 ∙ ends (leading_from c.loop-i.n) c.args.line.now c.args.from c.args.width c.loop-i.i c.loop-i-test.false))
+returns c = sym (ap or_bad_field (c.loop-i.invariant.1 ∙ ends (leading_from c.loop-i.n) c.args.line.now c.args.from c.args.width c.loop-i.i c.loop-i-test.false))

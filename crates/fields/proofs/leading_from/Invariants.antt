@@ -1,14 +1,11 @@
 -- `fields::leading_from` meets its contract. The loop's invariant: what is asked of the whole field is asked of the columns that are left, after digits
 -- that are worth n. Assumes nothing.
 use mathlib.Core.Path.{◌≡◌}
-use Prim.Native.Nat.{◌≤◌, ◌<◌, ◌+◌, ◌-◌, ◌^◌}
+use Prim.Native.Nat.{◌<◌, ◌+◌, ◌-◌, ◌^◌}
 use Rattle.law.specs.Columns.{cells}
 use Rattle.law.proofs.FieldsRead.{leading_from}
 use Rattle.fields.proofs.leading_from.Given as goal
 
 abbrev pub invariant-loop-i : goal.invariant-loop-i
 invariant-loop-i l =
-    (l.i ≤ l.width) × (l.n < 10 ^ l.i) × (leading_from 0 (cells l.line l.from l.width) ≡ leading_from l.n (cells l.line (l.from + l.i) (l.width - l.i)))
-
-abbrev pub decreases-loop-i : goal.decreases-loop-i
-decreases-loop-i l = l.width - l.i
+    (l.n < 10 ^ l.i) × (leading_from 0 (cells l.line l.from l.width) ≡ leading_from l.n (cells l.line (l.from + l.i) (l.width - l.i)))

@@ -1,14 +1,10 @@
 -- `glances::is_row_blank` meets its contract. The loop's invariant: the cells up to round j are zero where good says so. Assumes nothing.
 use mathlib.Core.Path.{◌≡◌}
 use mathlib.Core.Bool.{true}
-use Prim.Native.Nat.{ℕ, ◌+◌, ◌-◌, ◌≤◌, ◌<◌}
+use Prim.Native.Nat.{ℕ, ◌+◌, ◌≤◌, ◌<◌}
 use lib.ListN.{get_or}
-use Rattle.law.specs.Sizes.{most_rounds}
 use Rattle.law.specs.Tables.{cell_of}
 use Rattle.glances.proofs.is_row_blank.Given as goal
 
 abbrev pub invariant-loop-j : goal.invariant-loop-j
-invariant-loop-j l = l.good ≡ true → (k : ℕ) → k < l.j → l.from ≤ k → get_or l.t (cell_of l.place.0 (k + 1)) 0 ≡ 0
-
-abbrev pub decreases-loop-j : goal.decreases-loop-j
-decreases-loop-j l = most_rounds - l.j
+invariant-loop-j l = l.good ≡ true → (k : ℕ) → k < l.j → l.from ≤ k → get_or l.tables.colours.now (cell_of l.place.0 (k + 1)) 0 ≡ 0

@@ -1,11 +1,6 @@
 -- `glances::note_u` meets its contract. The loop's invariant: the flags of the first j rounds are noted. Assumes nothing.
-use Prim.Native.Nat.{◌-◌}
-use Rattle.law.specs.Sizes.{most_rounds}
 use Rattle.glances.proofs.Once.{Noting}
 use Rattle.glances.proofs.note_u.Given as goal
 
 abbrev pub invariant-loop-j : goal.invariant-loop-j
-invariant-loop-j l = Noting l.results l.place.0 l.initial.seen l.seen l.j l.again
-
-abbrev pub decreases-loop-j : goal.decreases-loop-j
-decreases-loop-j l = most_rounds - l.j
+invariant-loop-j l = Noting l.tables.results.now l.place.0 l.initial.seen l.seen l.j l.again

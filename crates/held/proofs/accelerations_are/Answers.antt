@@ -1,11 +1,12 @@
-use Rattle.held.proofs.Passed.{told_is, passed_none, passed-next, passed-all, from_zero}
+-- `held::accelerations_are` meets its contract. Assumes nothing.
+use mathlib.Core.Path.{refl}
+use Rattle.std.proofs.Common.{rules}
+use lib.ListN.{get_or}
+use Rattle.law.specs.Accelerations.{is_acceleration}
+use Rattle.law.specs.Lawful.{no_acceleration}
+use Rattle.texts.proofs.Told.{told_is}
+use Rattle.held.proofs.Runs.{every-tests, from_zero}
 use Rattle.held.proofs.accelerations_are.Goals as goal
 
-pub loop-j-init : goal.loop-j-init
-loop-j-init c = passed_none
-
-pub loop-j-preserved : goal.loop-j-preserved
-loop-j-preserved c = passed-next c.loop-j.invariant c.loop-j-test.true (told_is _ _ c.is_acceleration-good.ensures)
-
 pub returns : goal.returns
-returns c = from_zero (passed-all c.loop-j.invariant c.loop-j-test.false)
+returns c = from_zero (every-tests c.every.ensures (λ k. is_acceleration (get_or c.args.records.now k no_acceleration)) (λ k b l m p. search rules) (λ k. told_is _ _ refl))

@@ -1,12 +1,11 @@
+-- `held::numbers_within` meets its contract. Assumes nothing.
 use mathlib.Core.Path.{refl}
-use Rattle.held.proofs.Passed.{told_is, passed_none, passed-next, passed-all}
+use Rattle.std.proofs.Common.{rules}
+use lib.ListN.{get_or}
+use Rattle.kit.specs.Lists.{between}
+use Rattle.texts.proofs.Told.{told_is}
+use Rattle.held.proofs.Runs.{every-tests, from_zero}
 use Rattle.held.proofs.numbers_within.Goals as goal
 
-pub loop-i-init : goal.loop-i-init
-loop-i-init c = passed_none
-
-pub loop-i-preserved : goal.loop-i-preserved
-loop-i-preserved c = passed-next c.loop-i.invariant c.loop-i-test.true (told_is _ _ refl)
-
 pub returns : goal.returns
-returns c = passed-all c.loop-i.invariant c.loop-i-test.false
+returns c = from_zero (every-tests c.every.ensures (λ k. between c.args.least c.args.most (get_or c.args.t.now k 0)) (λ k b l m p. search rules) (λ k. told_is _ _ refl))

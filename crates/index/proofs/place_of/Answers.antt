@@ -7,7 +7,7 @@ pub returns-then-id-gt-MOST_START : goal.returns-then-id-gt-MOST_START
 returns-then-id-gt-MOST_START c = λ starts n x low. above starts n _ low c.if-id-gt-MOST_START.true
 
 pub returns-then-place-eq0 : goal.returns-then-place-eq0
-returns-then-place-eq0 c = λ starts n x low. cell_none starts n _ _ x c.if-id-gt-MOST_START.false (sym c.wide-place.ensures ∙ c.if-place-eq0.true)
+returns-then-place-eq0 c = λ starts n x low. cell_none starts n _ _ x c.if-id-gt-MOST_START.false (sym c.from-place.ensures ∙ c.if-place-eq0.true)
 
 pub returns : goal.returns
-returns c = λ starts n x low. cell_some starts n _ _ x c.if-id-gt-MOST_START.false _ c.wide-place.ensures c.if-place-eq0.false
+returns c = λ starts n x low. cell_some starts n _ _ x c.if-id-gt-MOST_START.false _ c.from-place.ensures c.if-place-eq0.false

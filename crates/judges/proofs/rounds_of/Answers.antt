@@ -1,14 +1,12 @@
 -- `judges::rounds_of` meets its contract. Assumes nothing.
+use mathlib.Core.Path.{ap}
+use Rattle.std.specs.Prelude.{is_some}
 use Rattle.steps.specs.Counts.{as_count}
 use Rattle.judges.proofs.Judging.{rounds-stated, rounds-not-stated}
 use Rattle.judges.proofs.rounds_of.Goals as goal
 
-pub returns-then-c : goal.returns-then-c
-returns-then-c c =
-    let a = c.args in
-    λ rs. rounds-stated (as_count a.c rs) a.colours.now c.if-c.true
+pub returns-in-Some : goal.returns-in-Some
+returns-in-Some c = rounds-stated c.args.counts.now c.args.tables.now.colours.now c.in-Some.is
 
-pub returns : goal.returns
-returns c =
-    let a = c.args in
-    λ rs. rounds-not-stated (as_count a.c rs) a.colours.now c.if-c.false c.rounds_seen.ensures
+pub returns-in-None : goal.returns-in-None
+returns-in-None c = rounds-not-stated c.args.counts.now c.args.tables.now.colours.now c.in-None.is c.rounds_seen.ensures

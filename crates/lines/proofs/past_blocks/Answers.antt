@@ -5,12 +5,6 @@ use borrow.Author.Rules.{rules}
 use Rattle.lines.proofs.Found.{clean_join, clean_slice}
 use Rattle.lines.proofs.past_blocks.Goals as goal
 
-pub loop-i-init : goal.loop-i-init
-loop-i-init c = (search rules, search rules, λ k l m. absurd (omega arith))
-
-pub returns-then-not-all_allowed : goal.returns-then-not-all_allowed
-returns-then-not-all_allowed c = c.loop-i.invariant
-
 pub loop-i-preserved : goal.loop-i-preserved
 loop-i-preserved c =
     let l = c.loop-i in
@@ -20,6 +14,3 @@ loop-i-preserved c =
       clean_join a.file.now a.at l.i (l.i + a.block) l.invariant.2
           (clean_slice a.file.now l.i (l.i + a.block) (omega arith) (search rules) (sym c.all_allowed.ensures ∙ c.if-not-all_allowed.false)),
     )
-
-pub returns : goal.returns
-returns c = c.loop-i.invariant

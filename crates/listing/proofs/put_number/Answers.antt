@@ -2,6 +2,6 @@
 use Rattle.listing.specs.Listing.{decimal}
 use Rattle.listing.proofs.put_number.Goals as goal
 
-pub returns : goal.returns
+pub returns-clause-put : goal.returns-clause-put
 unfolding decimal
-returns c = c.put_digits.ensures
+returns-clause-put c = c.put_digits.ensures.put

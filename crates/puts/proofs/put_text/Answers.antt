@@ -2,20 +2,14 @@ use native.Mathlib.Omega.{arith}
 use Rattle.puts.proofs.Ends.{relined-start, relined-next, relined-all, relined-room}
 use Rattle.puts.proofs.put_text.Goals as goal
 
-pub loop-i-init : goal.loop-i-init
-loop-i-init c = let a = c.args in relined-start a.end a.text.now a.n a.at a.out.now (omega (arith, c.requires.1))
-
-pub bounds-text-i : goal.bounds-text-i
-bounds-text-i c = omega (arith, c.loop-i-test.true, c.requires.0)
+pub loop-c-init : goal.loop-c-init
+loop-c-init c = let a = c.args in relined-start a.end a.text.now a.at a.out.now (omega arith)
 
 pub put_kept-next-requires : goal.put_kept-next-requires
-put_kept-next-requires c = let a = c.args in relined-room a.end a.text.now a.n a.at a.out.now c.loop-i.invariant c.loop-i-test.true c.requires.0 c.requires.1
+put_kept-next-requires c = let a = c.args in relined-room a.end a.text.now a.at a.out.now c.loop-c.invariant c.loop-c-test.true c.requires
 
-pub loop-i-preserved : goal.loop-i-preserved
-loop-i-preserved c = let a = c.args in relined-next a.end a.text.now a.n a.at a.out.now c.loop-i.invariant c.loop-i-test.true c.requires.0 c.put_kept-next.ensures
-
-pub shape_of-out : goal.shape_of-out
-shape_of-out c = c.loop-i.invariant.put.long
+pub loop-c-preserved : goal.loop-c-preserved
+loop-c-preserved c = let a = c.args in relined-next a.end a.text.now a.at a.out.now c.loop-c.invariant c.loop-c-test.true c.put_kept-next.ensures
 
 pub returns : goal.returns
-returns c = let a = c.args in relined-all a.end a.text.now a.n a.at a.out.now c.loop-i.invariant c.loop-i-test.false
+returns c = let a = c.args in relined-all a.end a.text.now a.at a.out.now c.loop-c.invariant c.loop-c-test.false

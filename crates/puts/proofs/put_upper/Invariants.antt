@@ -4,6 +4,3 @@ use Rattle.puts.proofs.put_upper.Given as goal
 
 abbrev pub invariant-loop-i : goal.invariant-loop-i
 invariant-loop-i l = Showing l.fill l.width l.n l.at l.initial.out l.out l.i l.left
-
-abbrev pub decreases-loop-i : goal.decreases-loop-i
-decreases-loop-i l = l.i

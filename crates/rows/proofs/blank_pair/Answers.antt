@@ -1,6 +1,6 @@
 -- `rows::blank_pair` meets its contract. Assumes nothing.
 use mathlib.Core.Path.{◌∙◌}
-use Rattle.rows.proofs.Letters.{pair_is}
+use Rattle.rows.proofs.PlayerRounds.{pair_is}
 use Rattle.rows.proofs.blank_pair.Goals as goal
 
 pub returns : goal.returns

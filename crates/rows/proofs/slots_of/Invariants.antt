@@ -1,10 +1,6 @@
 -- `rows::slots_of` meets its contract. The loop's invariant: the first i rounds are read. Those that the line does not reach are blank. Assumes nothing.
-use Prim.Native.Nat.{◌≤◌, ◌-◌}
 use Rattle.rows.proofs.PlayerRounds.{Read}
 use Rattle.rows.proofs.slots_of.Given as goal
 
 abbrev pub invariant-loop-i : goal.invariant-loop-i
-invariant-loop-i l = (l.i ≤ l.reach) × Read l.line l.i l.ids l.colours l.results
-
-abbrev pub decreases-loop-i : goal.decreases-loop-i
-decreases-loop-i l = l.reach - l.i
+invariant-loop-i l = Read l.line l.i l.ids l.colours l.results

@@ -1,14 +1,16 @@
--- `runs::run` meets its contract. The loop's invariant: what is left of the run is the whole run. Assumes nothing.
+-- `runs::run` meets its contract. The loop's invariant: what is left of the run is the whole run, and the tables are those that were lent. Assumes nothing.
 use Prim.Native.Nat.{◌-◌}
 use lib.ListN.{length}
-use Rattle.tables.specs.Lent.{nine}
+use Rattle.tables.specs.Lent.{nine_of, SameLent}
 use Rattle.runs.proofs.Going.{Going}
 use Rattle.runs.proofs.run.Given as goal
 
-abbrev pub invariant-loop-from : goal.invariant-loop-from
-invariant-loop-from l =
-    Going l.file (nine l.initial.starts l.initial.points l.initial.ranks l.initial.kept l.initial.opponents l.initial.colours l.initial.results l.initial.text l.initial.lines) l.initial.c l.initial.cells (nine l.starts l.points l.ranks l.kept l.opponents l.colours l.results l.text l.lines) l.index l.c l.cells l.cursor.at l.ln
+abbrev pub invariant-loop-line : goal.invariant-loop-line
+invariant-loop-line l =
+    record {
+      same : SameLent l.initial.tables l.tables;
+      going : Going l.file (nine_of l.initial.tables) l.initial.counts (nine_of l.tables) l.index l.counts l.cursor.at l.number;
+    }
 
-abbrev pub decreases-loop-from : goal.decreases-loop-from
-decreases-loop-from l =
-    length l.file - l.cursor.at
+abbrev pub decreases-loop-line : goal.decreases-loop-line
+decreases-loop-line l = length l.file - l.cursor.at

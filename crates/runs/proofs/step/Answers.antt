@@ -1,122 +1,113 @@
 -- `runs::step` meets its contract. Assumes nothing.
-use mathlib.Core.Path.{refl, sym, ap, ◌∙◌}
+use mathlib.Core.Path.{refl, ◌∙◌}
 use Prim.Native.Nat.{◌-◌}
-use Rattle.law.specs.Items.{passed_over, kept-text, 142-record, 152-record, 162-record, 250-record, 001-record, unlisted, kind_of}
+use native.Mathlib.Omega.{arith}
+use Rattle.law.specs.Items.{passed_over, kept-text, 142-record, 152-record, 162-record, 250-record, 001-record}
 use Rattle.join.specs.Store.{state, step_row}
-use Rattle.records.specs.Records.{kind_says}
-use Rattle.records.proofs.Told.{kind_told}
-use Rattle.tables.specs.Lent.{nine}
-use Rattle.record_cells.specs.Cells.{records_of}
+use Rattle.tables.specs.Lent.{nine_of}
 use Rattle.steps.specs.Counts.{as_count}
-use Rattle.runs.proofs.Sound.{too_long, by_kind}
-use Rattle.runs.proofs.Room.{stepped, still_indexed, less}
+use Rattle.runs.proofs.Sound.{too_long, by_kind, passed_on, told_kind, no_kind}
+use Rattle.runs.proofs.Players.{still_indexed}
 use Rattle.runs.proofs.step.Goals as goal
 
-pub returns-then-line-gt-MOST_LINE : goal.returns-then-line-gt-MOST_LINE
-returns-then-line-gt-MOST_LINE c =
+pub returns-then-is_skipped-clause-step : goal.returns-then-is_skipped-clause-step
+returns-then-is_skipped-clause-step c =
     let a = c.args in
-    let rs = records_of a.cells.now in
-    let row = a.line.now in
-    let t = (nine a.starts.now a.points.now a.ranks.now a.kept.now a.opponents.now a.colours.now a.results.now a.text.now a.lines.now) in
-    (λ ln end e. too_long row end (state ln (as_count a.c rs) t) c.requires.small.2 c.if-line-gt-MOST_LINE.true, c.requires.indexed, c.requires.small.0, c.requires.small.3)
+    λ ln end e. passed_on a.line.now end ln (as_count a.counts.now) (nine_of a.tables.now) c.requires.clean (c.is_skipped.ensures c.if-is_skipped.true)
 
-pub step_text-requires : goal.step_text-requires
-step_text-requires c =
-    let row = c.args.line.now in
-    (kind_told (kind_of row) kept-text (sym c.kind_of.ensures ∙ ap kind_says c.in-KeptText.is), c.if-line-gt-MOST_LINE.false, c.requires.small.0.text, c.requires.long.text)
+pub returns-then-line-gt-MOST_LINE-clause-step : goal.returns-then-line-gt-MOST_LINE-clause-step
+returns-then-line-gt-MOST_LINE-clause-step c =
+    let a = c.args in
+    λ ln end e. too_long a.line.now end (state ln (as_count a.counts.now) (nine_of a.tables.now)) c.requires.clean c.if-line-gt-MOST_LINE.true
 
-pub step_player-requires : goal.step_player-requires
-step_player-requires c = record { long_eight = record { starts_long = c.requires.long.starts; points_long = c.requires.long.points; ranks_long = c.requires.long.ranks; kept_long = c.requires.long.kept; opponents_long = c.requires.long.opponents; colours_long = c.requires.long.colours; results_long = c.requires.long.results; lines_long = c.requires.long.lines }; indexed = c.requires.indexed }
+pub returns-in_err-kind_of-clause-step : goal.returns-in_err-kind_of-clause-step
+returns-in_err-kind_of-clause-step c =
+    let a = c.args in
+    λ ln end e. no_kind a.line.now end ln a.counts.now (nine_of a.tables.now) _ _ c.from_residual.ensures.1 c.in_err-kind_of.ensures c.requires.clean c.if-line-gt-MOST_LINE.false
 
-pub returns-in-PassedOver : goal.returns-in-PassedOver
+pub step_text-requires-clause-kept : goal.step_text-requires-clause-kept
+step_text-requires-clause-kept c = told_kind c.args.line.now _ _ c.in_ok-kind_of.ensures c.in-KeptText.is
+
+pub returns-in-PassedOver-clause-step : goal.returns-in-PassedOver-clause-step
 unfolding step_row
-returns-in-PassedOver c =
+returns-in-PassedOver-clause-step c =
     let a = c.args in
-    let rs = records_of a.cells.now in
-    let row = a.line.now in
-    let t = (nine a.starts.now a.points.now a.ranks.now a.kept.now a.opponents.now a.colours.now a.results.now a.text.now a.lines.now) in
-    let all = c.requires.small.2 in
-    let kind = kind_told (kind_of row) passed_over (sym c.kind_of.ensures ∙ ap kind_says c.in-PassedOver.is) in
-    stepped a.number.0 (as_count a.c rs) t row (record { fault = 0; counts = a.c }) rs _ (c.requires.small.0.accelerations, c.requires.small.0.text) c.requires.small.1 (λ ln end e. refl ∙ by_kind row end (state ln (as_count a.c rs) t) all passed_over c.if-line-gt-MOST_LINE.false kind) c.requires.indexed c.requires.small.3
+    let kind = told_kind a.line.now _ _ c.in_ok-kind_of.ensures c.in-PassedOver.is in
+    λ ln end e. by_kind a.line.now end (state ln (as_count a.counts.now) (nine_of a.tables.now)) c.requires.clean passed_over c.if-line-gt-MOST_LINE.false kind
 
-pub returns-in-KeptText : goal.returns-in-KeptText
+pub returns-in-KeptText-clause-step : goal.returns-in-KeptText-clause-step
 unfolding step_row
-returns-in-KeptText c =
+returns-in-KeptText-clause-step c =
     let a = c.args in
-    let rs = records_of a.cells.now in
-    let row = a.line.now in
-    let t = (nine a.starts.now a.points.now a.ranks.now a.kept.now a.opponents.now a.colours.now a.results.now a.text.now a.lines.now) in
-    let all = c.requires.small.2 in
-    let kind = kind_told (kind_of row) kept-text (sym c.kind_of.ensures ∙ ap kind_says c.in-KeptText.is) in
-    stepped a.number.0 (as_count a.c rs) t row c.step_text.result rs _ (c.requires.small.0.accelerations, c.requires.small.0.text) c.requires.small.1 (λ ln end e. c.step_text.ensures ln rs t ∙ by_kind row end (state ln (as_count a.c rs) t) all kept-text c.if-line-gt-MOST_LINE.false kind)
-    (still_indexed a.starts.now a.index.now (a.number.0 - 1) (as_count a.c rs) t row kept-text refl c.step_text.result rs _ (c.step_text.ensures (a.number.0 - 1) rs t) c.requires.indexed) c.requires.small.3
+    let kind = told_kind a.line.now _ _ c.in_ok-kind_of.ensures c.in-KeptText.is in
+    λ ln end e. c.step_text.ensures ln (nine_of a.tables.now) ∙ by_kind a.line.now end (state ln (as_count a.counts.now) (nine_of a.tables.now)) c.requires.clean kept-text c.if-line-gt-MOST_LINE.false kind
 
-pub returns-in-Rounds : goal.returns-in-Rounds
+pub returns-in-KeptText-clause-indexed : goal.returns-in-KeptText-clause-indexed
 unfolding step_row
-returns-in-Rounds c =
+returns-in-KeptText-clause-indexed c =
     let a = c.args in
-    let rs = records_of a.cells.now in
-    let row = a.line.now in
-    let t = (nine a.starts.now a.points.now a.ranks.now a.kept.now a.opponents.now a.colours.now a.results.now a.text.now a.lines.now) in
-    let all = c.requires.small.2 in
-    let kind = kind_told (kind_of row) 142-record (sym c.kind_of.ensures ∙ ap kind_says c.in-Rounds.is) in
-    stepped a.number.0 (as_count a.c rs) t row c.step_rounds.result rs _ (c.requires.small.0.accelerations, c.requires.small.0.text) c.requires.small.1 (λ ln end e. c.step_rounds.ensures ln rs t ∙ by_kind row end (state ln (as_count a.c rs) t) all 142-record c.if-line-gt-MOST_LINE.false kind)
-    (still_indexed a.starts.now a.index.now (a.number.0 - 1) (as_count a.c rs) t row 142-record refl c.step_rounds.result rs _ (c.step_rounds.ensures (a.number.0 - 1) rs t) c.requires.indexed) c.requires.small.3
+    let t = nine_of a.tables.now in
+    still_indexed a.tables.now.starts.now a.index.now 0 (as_count a.counts.now) t a.line.now kept-text refl c.step_text.result c.step_text.new.counts _ (c.step_text.ensures 0 t) c.requires.indexed
 
-pub returns-in-Colour : goal.returns-in-Colour
+pub returns-in-Rounds-clause-step : goal.returns-in-Rounds-clause-step
 unfolding step_row
-returns-in-Colour c =
+returns-in-Rounds-clause-step c =
     let a = c.args in
-    let rs = records_of a.cells.now in
-    let row = a.line.now in
-    let t = (nine a.starts.now a.points.now a.ranks.now a.kept.now a.opponents.now a.colours.now a.results.now a.text.now a.lines.now) in
-    let all = c.requires.small.2 in
-    let kind = kind_told (kind_of row) 152-record (sym c.kind_of.ensures ∙ ap kind_says c.in-Colour.is) in
-    stepped a.number.0 (as_count a.c rs) t row c.step_colour.result rs _ (c.requires.small.0.accelerations, c.requires.small.0.text) c.requires.small.1 (λ ln end e. c.step_colour.ensures ln rs t ∙ by_kind row end (state ln (as_count a.c rs) t) all 152-record c.if-line-gt-MOST_LINE.false kind)
-    (still_indexed a.starts.now a.index.now (a.number.0 - 1) (as_count a.c rs) t row 152-record refl c.step_colour.result rs _ (c.step_colour.ensures (a.number.0 - 1) rs t) c.requires.indexed) c.requires.small.3
+    let kind = told_kind a.line.now _ _ c.in_ok-kind_of.ensures c.in-Rounds.is in
+    λ ln end e. c.step_rounds.ensures ln (nine_of a.tables.now) ∙ by_kind a.line.now end (state ln (as_count a.counts.now) (nine_of a.tables.now)) c.requires.clean 142-record c.if-line-gt-MOST_LINE.false kind
 
-pub returns-in-Scoring : goal.returns-in-Scoring
+pub returns-in-Rounds-clause-indexed : goal.returns-in-Rounds-clause-indexed
 unfolding step_row
-returns-in-Scoring c =
+returns-in-Rounds-clause-indexed c =
     let a = c.args in
-    let rs = records_of a.cells.now in
-    let row = a.line.now in
-    let t = (nine a.starts.now a.points.now a.ranks.now a.kept.now a.opponents.now a.colours.now a.results.now a.text.now a.lines.now) in
-    let all = c.requires.small.2 in
-    let kind = kind_told (kind_of row) 162-record (sym c.kind_of.ensures ∙ ap kind_says c.in-Scoring.is) in
-    stepped a.number.0 (as_count a.c rs) t row c.step_scoring.result rs _ (c.requires.small.0.accelerations, c.requires.small.0.text) c.requires.small.1 (λ ln end e. c.step_scoring.ensures ln rs t ∙ by_kind row end (state ln (as_count a.c rs) t) all 162-record c.if-line-gt-MOST_LINE.false kind)
-    (still_indexed a.starts.now a.index.now (a.number.0 - 1) (as_count a.c rs) t row 162-record refl c.step_scoring.result rs _ (c.step_scoring.ensures (a.number.0 - 1) rs t) c.requires.indexed) c.requires.small.3
+    let t = nine_of a.tables.now in
+    still_indexed a.tables.now.starts.now a.index.now 0 (as_count a.counts.now) t a.line.now 142-record refl c.step_rounds.result c.step_rounds.new.counts _ (c.step_rounds.ensures 0 t) c.requires.indexed
 
-pub returns-in-Acceleration : goal.returns-in-Acceleration
+pub returns-in-Colour-clause-step : goal.returns-in-Colour-clause-step
 unfolding step_row
-returns-in-Acceleration c =
+returns-in-Colour-clause-step c =
     let a = c.args in
-    let rs = records_of a.cells.now in
-    let row = a.line.now in
-    let t = (nine a.starts.now a.points.now a.ranks.now a.kept.now a.opponents.now a.colours.now a.results.now a.text.now a.lines.now) in
-    let all = c.requires.small.2 in
-    let kind = kind_told (kind_of row) 250-record (sym c.kind_of.ensures ∙ ap kind_says c.in-Acceleration.is) in
-    stepped a.number.0 (as_count a.c rs) t row c.step_acceleration.result _ _ (c.requires.small.0.accelerations, c.requires.small.0.text) c.requires.small.1 (λ ln end e. c.step_acceleration.ensures.0 ln t e ∙ by_kind row end (state ln (as_count a.c rs) t) all 250-record c.if-line-gt-MOST_LINE.false kind)
-    (still_indexed a.starts.now a.index.now (a.number.0 - 1) (as_count a.c rs) t row 250-record refl c.step_acceleration.result _ _ (c.step_acceleration.ensures.0 (a.number.0 - 1) t (less a.number.0 c.requires.small.1)) c.requires.indexed) c.step_acceleration.ensures.1
+    let kind = told_kind a.line.now _ _ c.in_ok-kind_of.ensures c.in-Colour.is in
+    λ ln end e. c.step_colour.ensures ln (nine_of a.tables.now) ∙ by_kind a.line.now end (state ln (as_count a.counts.now) (nine_of a.tables.now)) c.requires.clean 152-record c.if-line-gt-MOST_LINE.false kind
 
-pub returns-in-Player : goal.returns-in-Player
+pub returns-in-Colour-clause-indexed : goal.returns-in-Colour-clause-indexed
 unfolding step_row
-returns-in-Player c =
+returns-in-Colour-clause-indexed c =
     let a = c.args in
-    let rs = records_of a.cells.now in
-    let row = a.line.now in
-    let t = (nine a.starts.now a.points.now a.ranks.now a.kept.now a.opponents.now a.colours.now a.results.now a.text.now a.lines.now) in
-    let all = c.requires.small.2 in
-    let kind = kind_told (kind_of row) 001-record (sym c.kind_of.ensures ∙ ap kind_says c.in-Player.is) in
-    stepped a.number.0 (as_count a.c rs) t row c.step_player.result rs _ (c.requires.small.0.accelerations, c.requires.small.0.text) c.requires.small.1 (λ ln end e. c.step_player.ensures.0 ln rs a.text.now e ∙ by_kind row end (state ln (as_count a.c rs) t) all 001-record c.if-line-gt-MOST_LINE.false kind) c.step_player.ensures.1 c.requires.small.3
+    let t = nine_of a.tables.now in
+    still_indexed a.tables.now.starts.now a.index.now 0 (as_count a.counts.now) t a.line.now 152-record refl c.step_colour.result c.step_colour.new.counts _ (c.step_colour.ensures 0 t) c.requires.indexed
 
-pub returns-in-Unlisted : goal.returns-in-Unlisted
+pub returns-in-Scoring-clause-step : goal.returns-in-Scoring-clause-step
 unfolding step_row
-returns-in-Unlisted c =
+returns-in-Scoring-clause-step c =
     let a = c.args in
-    let rs = records_of a.cells.now in
-    let row = a.line.now in
-    let t = (nine a.starts.now a.points.now a.ranks.now a.kept.now a.opponents.now a.colours.now a.results.now a.text.now a.lines.now) in
-    let all = c.requires.small.2 in
-    let kind = kind_told (kind_of row) unlisted (sym c.kind_of.ensures ∙ ap kind_says c.in-Unlisted.is) in
-    stepped a.number.0 (as_count a.c rs) t row (record { fault = 6; counts = a.c }) rs _ (c.requires.small.0.accelerations, c.requires.small.0.text) c.requires.small.1 (λ ln end e. refl ∙ by_kind row end (state ln (as_count a.c rs) t) all unlisted c.if-line-gt-MOST_LINE.false kind) c.requires.indexed c.requires.small.3
+    let kind = told_kind a.line.now _ _ c.in_ok-kind_of.ensures c.in-Scoring.is in
+    λ ln end e. c.step_scoring.ensures ln (nine_of a.tables.now) ∙ by_kind a.line.now end (state ln (as_count a.counts.now) (nine_of a.tables.now)) c.requires.clean 162-record c.if-line-gt-MOST_LINE.false kind
+
+pub returns-in-Scoring-clause-indexed : goal.returns-in-Scoring-clause-indexed
+unfolding step_row
+returns-in-Scoring-clause-indexed c =
+    let a = c.args in
+    let t = nine_of a.tables.now in
+    still_indexed a.tables.now.starts.now a.index.now 0 (as_count a.counts.now) t a.line.now 162-record refl c.step_scoring.result c.step_scoring.new.counts _ (c.step_scoring.ensures 0 t) c.requires.indexed
+
+pub returns-in-Acceleration-clause-step : goal.returns-in-Acceleration-clause-step
+unfolding step_row
+returns-in-Acceleration-clause-step c =
+    let a = c.args in
+    let kind = told_kind a.line.now _ _ c.in_ok-kind_of.ensures c.in-Acceleration.is in
+    λ ln end e. c.step_acceleration.ensures ln (nine_of a.tables.now) e ∙ by_kind a.line.now end (state ln (as_count a.counts.now) (nine_of a.tables.now)) c.requires.clean 250-record c.if-line-gt-MOST_LINE.false kind
+
+pub returns-in-Acceleration-clause-indexed : goal.returns-in-Acceleration-clause-indexed
+unfolding step_row
+returns-in-Acceleration-clause-indexed c =
+    let a = c.args in
+    let t = nine_of a.tables.now in
+    still_indexed a.tables.now.starts.now a.index.now (a.number.0 - 1) (as_count a.counts.now) t a.line.now 250-record refl c.step_acceleration.result c.step_acceleration.new.counts _ (c.step_acceleration.ensures (a.number.0 - 1) t (omega arith)) c.requires.indexed
+
+pub returns-in-Player-clause-step : goal.returns-in-Player-clause-step
+unfolding step_row
+returns-in-Player-clause-step c =
+    let a = c.args in
+    let kind = told_kind a.line.now _ _ c.in_ok-kind_of.ensures c.in-Player.is in
+    λ ln end e. c.step_player.ensures.step ln e ∙ by_kind a.line.now end (state ln (as_count a.counts.now) (nine_of a.tables.now)) c.requires.clean 001-record c.if-line-gt-MOST_LINE.false kind

@@ -1,38 +1,29 @@
 -- `scorings::with_slot` meets its contract: each answer is what one slot more gives. Assumes nothing.
-use mathlib.Core.Path.{sym, ap, ◌∙◌}
-use borrow.Author.Tests.{not-true, not-false}
+use mathlib.Core.Path.{sym, ◌∙◌}
+use mathlib.Core.List.{◌∷◌}
+use Rattle.kit.specs.Decides.{to}
 use Rattle.law.specs.Columns.{cells}
-use Rattle.scorings.specs.Scoring.{value_says}
-use Rattle.scorings.proofs.ScoringSlots.{slot_place, after_bad, blank_late, blank_more, slot_bad, letter-again, letter-new}
+use Rattle.law.proofs.RecordsRead.{value_of}
+use Rattle.fields.proofs.Cases.{handed_on}
+use Rattle.scorings.specs.Scoring.{differing, placed, if_filled}
+use Rattle.scorings.proofs.ScoringSlots.{slot_place, blank_late, blank_more, slot_bad, slot_more}
 use Rattle.scorings.proofs.with_slot.Goals as goal
 
-pub returns-then-not-given : goal.returns-then-not-given
-returns-then-not-given c = λ after is. after_bad (cells c.args.line.now c.args.from 5) after c.args.given is (not-true _ c.if-not-given.true) c.nothing_given.ensures
+pub returns-then-is_some : goal.returns-then-is_some
+returns-then-is_some c = λ after said. blank_late (cells c.args.line.now c.args.from 5) after c.args.given said (sym c.blank_at.ensures ∙ c.if-blank_at.true) (sym c.is_some.ensures ∙ c.if-is_some.true)
 
-pub returns-then-given : goal.returns-then-given
-returns-then-given c = λ after is. blank_late (cells c.args.line.now c.args.from 5) after c.args.given is (sym c.blank_at.ensures ∙ c.if-blank_at.true) c.if-given.true c.nothing_given-then-given.ensures
+pub returns-else-is_some : goal.returns-else-is_some
+returns-else-is_some c = λ after said. blank_more (cells c.args.line.now c.args.from 5) after c.args.given said (sym c.blank_at.ensures ∙ c.if-blank_at.true) (sym c.is_some.ensures ∙ c.if-is_some.false)
 
-pub returns-then-blank_at : goal.returns-then-blank_at
-returns-then-blank_at c = λ after is. blank_more (cells c.args.line.now c.args.from 5) after c.args.given is (sym c.blank_at.ensures ∙ c.if-blank_at.true) (not-false _ c.if-not-given.false) c.if-given.false
+pub returns-in_err-place : goal.returns-in_err-place
+returns-in_err-place c =
+    let slot = cells c.args.line.now c.args.from 5 in
+    λ after said. handed_on _ _ c.from_residual.ensures.1 (to placed (value_of slot)) (to if_filled (differing (slot ∷ after))) c.in_err-place.ensures
+    (λ _. slot_bad slot after c.args.given said (sym c.blank_at.ensures ∙ c.if-blank_at.false) c.in_err-place.ensures)
 
-pub returns-in_default : goal.returns-in_default
-returns-in_default c = λ after is. slot_bad (cells c.args.line.now c.args.from 5) after c.args.given is (sym c.blank_at.ensures ∙ c.if-blank_at.false) (sym c.value_at.ensures ∙ ap value_says c.in_default.is) c.nothing_given-in_default.ensures
-
-pub bounds-seen-letter : goal.bounds-seen-letter
-bounds-seen-letter c = slot_place (cells c.args.line.now c.args.from 5) _ _ (sym c.value_at.ensures ∙ ap value_says c.in-Of.is)
-
-pub returns-then-seen-letter : goal.returns-then-seen-letter
-returns-then-seen-letter c =
-    λ after is. letter-again (cells c.args.line.now c.args.from 5) after c.args.given is (sym c.blank_at.ensures ∙ c.if-blank_at.false) (not-false _ c.if-not-given.false) _ _
-    (sym c.value_at.ensures ∙ ap value_says c.in-Of.is) c.if-seen-letter.true c.nothing_given-then-seen-letter.ensures
-
-pub with_value-values-requires : goal.with_value-values-requires
-with_value-values-requires c = slot_place (cells c.args.line.now c.args.from 5) _ _ (sym c.value_at.ensures ∙ ap value_says c.in-Of.is)
-
-pub bounds-seen-letter-2 : goal.bounds-seen-letter-2
-bounds-seen-letter-2 c = slot_place (cells c.args.line.now c.args.from 5) _ _ (sym c.value_at.ensures ∙ ap value_says c.in-Of.is)
+pub with-requires : goal.with-requires
+with-requires c = slot_place (cells c.args.line.now c.args.from 5) _ _ c.in_ok-place.ensures
 
 pub returns : goal.returns
 returns c =
-    λ after is. letter-new (cells c.args.line.now c.args.from 5) after c.args.given is (sym c.blank_at.ensures ∙ c.if-blank_at.false) (not-false _ c.if-not-given.false) _ _
-    (sym c.value_at.ensures ∙ ap value_says c.in-Of.is) c.if-seen-letter.false c.with_value-values.ensures
+    λ after said. slot_more (cells c.args.line.now c.args.from 5) after c.args.given said (sym c.blank_at.ensures ∙ c.if-blank_at.false) c.in_ok-place.ensures c.unwrap_or.ensures _ _ c.with.ensures c.map.ensures.cases

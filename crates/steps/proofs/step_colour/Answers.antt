@@ -1,27 +1,23 @@
 -- `steps::step_colour` meets its contract. Assumes nothing.
-use mathlib.Core.Path.{sym, ap, ◌∙◌}
+use mathlib.Core.Path.{refl, sym, ◌∙◌}
 use borrow.Author.Tests.{eq-eqb, ne_eqb}
 use Rattle.law.proofs.RecordsRead.{colour_of}
-use Rattle.fields.proofs.Cases.{value-said, none_said}
-use Rattle.records.specs.Records.{initial_says}
+use Rattle.fields.proofs.Cases.{value-said}
+use Rattle.join.specs.Store.{count_colour}
 use Rattle.steps.specs.Counts.{as_count}
-use Rattle.steps.proofs.Went.{colour_bad, colour-again, colour-on}
+use Rattle.steps.proofs.Went.{handed, colour_bad, colour-again, colour-on}
 use Rattle.steps.proofs.step_colour.Goals as goal
 
-pub returns-in_default : goal.returns-in_default
-returns-in_default c =
-    let a = c.args in
-    let o = colour_of a.line.now in
-    λ ln rs t. colour_bad ln (as_count a.c rs) t o (none_said o (sym c.colour_of.ensures ∙ ap initial_says c.in_default.is))
+pub returns-in_err-colour : goal.returns-in_err-colour
+returns-in_err-colour c =
+    λ ln t. let h = handed (colour_of c.args.line.now) _ _ c.from_residual.ensures.1 c.in_err-colour.ensures ln c.args.counts.now t in
+    h.0 ∙ colour_bad ln (as_count c.args.counts.now) t _ h.1
 
-pub returns-then-c-ne0 : goal.returns-then-c-ne0
-returns-then-c-ne0 c =
-    let a = c.args in
-    let o = colour_of a.line.now in
-    λ ln rs t. colour-again ln (as_count a.c rs) t o _ (value-said o _ (sym c.colour_of.ensures ∙ ap initial_says c.in-Letter.is)) (ne_eqb a.c.colour 0 c.if-c-ne0.true)
+pub returns-then-counts-ne0 : goal.returns-then-counts-ne0
+returns-then-counts-ne0 c =
+    λ ln t. colour-again ln (as_count c.args.counts.now) t _ _ (value-said _ _ (sym c.in_ok-colour.ensures)) (ne_eqb c.args.counts.now.colour 0 c.if-counts-ne0.true)
 
 pub returns : goal.returns
+unfolding count_colour
 returns c =
-    let a = c.args in
-    let o = colour_of a.line.now in
-    λ ln rs t. colour-on ln (as_count a.c rs) t o _ (value-said o _ (sym c.colour_of.ensures ∙ ap initial_says c.in-Letter.is)) (eq-eqb a.c.colour 0 c.if-c-ne0.false) (c.with_colour.ensures rs)
+    λ ln t. colour-on ln (as_count c.args.counts.now) t _ _ (value-said _ _ (sym c.in_ok-colour.ensures)) (eq-eqb c.args.counts.now.colour 0 c.if-counts-ne0.false) refl

@@ -1,26 +1,22 @@
 -- `steps::step_rounds` meets its contract. Assumes nothing.
-use mathlib.Core.Path.{sym, ap, ◌∙◌}
+use mathlib.Core.Path.{refl, sym, ◌∙◌}
 use Rattle.law.proofs.RecordsRead.{rounds_of_row}
-use Rattle.fields.proofs.Cases.{value-said, none_said}
-use Rattle.records.specs.Records.{rounds_says}
+use Rattle.fields.proofs.Cases.{value-said}
+use Rattle.join.specs.Store.{count_rounds}
 use Rattle.steps.specs.Counts.{as_count}
-use Rattle.steps.proofs.Went.{rounds_bad, rounds-again, rounds-on}
+use Rattle.steps.proofs.Went.{handed, rounds_bad, rounds-again, rounds-on}
 use Rattle.steps.proofs.step_rounds.Goals as goal
 
-pub returns-in_default : goal.returns-in_default
-returns-in_default c =
-    let a = c.args in
-    let o = rounds_of_row a.line.now in
-    λ ln rs t. rounds_bad ln (as_count a.c rs) t o (none_said o (sym c.rounds_of.ensures ∙ ap rounds_says c.in_default.is))
+pub returns-in_err-rounds : goal.returns-in_err-rounds
+returns-in_err-rounds c =
+    λ ln t. let h = handed (rounds_of_row c.args.line.now) _ _ c.from_residual.ensures.1 c.in_err-rounds.ensures ln c.args.counts.now t in
+    h.0 ∙ rounds_bad ln (as_count c.args.counts.now) t _ h.1
 
-pub returns-then-c : goal.returns-then-c
-returns-then-c c =
-    let a = c.args in
-    let o = rounds_of_row a.line.now in
-    λ ln rs t. rounds-again ln (as_count a.c rs) t o _ (value-said o _ (sym c.rounds_of.ensures ∙ ap rounds_says c.in-Given.is)) c.if-c.true
+pub returns-then-is_some : goal.returns-then-is_some
+returns-then-is_some c =
+    λ ln t. rounds-again ln (as_count c.args.counts.now) t _ _ (value-said _ _ (sym c.in_ok-rounds.ensures)) (sym c.is_some.ensures ∙ c.if-is_some.true)
 
 pub returns : goal.returns
+unfolding count_rounds
 returns c =
-    let a = c.args in
-    let o = rounds_of_row a.line.now in
-    λ ln rs t. rounds-on ln (as_count a.c rs) t o _ (value-said o _ (sym c.rounds_of.ensures ∙ ap rounds_says c.in-Given.is)) c.if-c.false (c.with_rounds.ensures rs)
+    λ ln t. rounds-on ln (as_count c.args.counts.now) t _ _ (value-said _ _ (sym c.in_ok-rounds.ensures)) (sym c.is_some.ensures ∙ c.if-is_some.false) refl

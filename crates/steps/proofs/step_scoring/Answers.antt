@@ -1,32 +1,27 @@
 -- `steps::step_scoring` meets its contract. Assumes nothing.
-use mathlib.Core.Path.{ap, ◌∙◌}
-use mathlib.Core.List.{List}
-use Prim.Native.Nat.{ℕ}
+use mathlib.Core.Path.{refl, sym, ap, ◌∙◌}
 use Rattle.law.proofs.RecordsRead.{given_of}
+use Rattle.scorings.specs.declared.Scoring.{Scoring}
+use Rattle.scorings.specs.Scoring.{scored, values_of}
+use Rattle.kit.specs.Decides.{to}
 use Rattle.join.specs.Store.{count_scoring}
 use Rattle.steps.specs.Counts.{as_count}
-use Rattle.steps.proofs.Answers.{scoring-there, no_scoring}
-use Rattle.steps.proofs.Went.{scoring_bad, scoring-again, scoring-on}
+use Rattle.steps.proofs.Answers.{value_there, to_none}
+use Rattle.steps.proofs.Went.{handed, scoring_bad, scoring-again, scoring-on}
 use Rattle.steps.proofs.step_scoring.Goals as goal
 
-pub returns-then-not-read : goal.returns-then-not-read
-returns-then-not-read c =
-    let a = c.args in
-    let o = given_of a.line.now in
-    λ ln rs t. scoring_bad ln (as_count a.c rs) t o (no_scoring o _ c.from_line-read.ensures c.if-not-read.true)
+pub returns-in_err-scoring : goal.returns-in_err-scoring
+returns-in_err-scoring c =
+    λ ln t. let h = handed (to scored (given_of c.args.line.now)) _ _ c.from_residual.ensures.1 c.in_err-scoring.ensures ln c.args.counts.now t in
+    h.0 ∙ scoring_bad ln (as_count c.args.counts.now) t _ (to_none scored _ h.1)
 
-pub returns-then-c : goal.returns-then-c
-returns-then-c c =
-    let a = c.args in
-    let o = given_of a.line.now in
-    let h = scoring-there o _ c.from_line-read.ensures c.if-not-read.false in
-    λ ln rs t. scoring-again ln (as_count a.c rs) t o h.0 h.1.0 c.if-c.true
+pub returns-then-is_some : goal.returns-then-is_some
+returns-then-is_some c =
+    let h = value_there scored (given_of c.args.line.now) _ (sym c.in_ok-scoring.ensures) in
+    λ ln t. scoring-again ln (as_count c.args.counts.now) t _ h.0 h.1.0 (sym c.is_some.ensures ∙ c.if-is_some.true)
 
 pub returns : goal.returns
+unfolding count_scoring values_of
 returns c =
-    let a = c.args in
-    let o = given_of a.line.now in
-    let h = scoring-there o _ c.from_line-read.ensures c.if-not-read.false in
-    λ ln rs t.
-    scoring-on ln (as_count a.c rs) t o h.0 h.1.0 c.if-c.false
-    (c.with_scoring.ensures rs ∙ ap (λ (v : List ℕ). count_scoring v (as_count a.c rs)) h.1.1)
+    let h = value_there scored (given_of c.args.line.now) _ (sym c.in_ok-scoring.ensures) in
+    λ ln t. scoring-on ln (as_count c.args.counts.now) t _ h.0 h.1.0 (sym c.is_some.ensures ∙ c.if-is_some.false) (ap (λ (s : Scoring). count_scoring s.values (as_count c.args.counts.now)) h.1.1)

@@ -3,6 +3,4 @@ use Rattle.tables.proofs.Rows.{pasted_ended}
 use Rattle.tables.proofs.store_text.Goals as goal
 
 pub returns : goal.returns
-returns c =
-    let a = c.args in
-    pasted_ended a.t.now a.at a.line.now a.n c.requires.0 c.requires.1 c.put_bytes.ensures
+returns c = pasted_ended c.args.t.now c.args.at c.args.line.now c.requires c.put.ensures

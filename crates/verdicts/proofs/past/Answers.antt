@@ -10,17 +10,13 @@ use Rattle.verdicts.proofs.Parts.{nothing_found}
 use Rattle.verdicts.proofs.past.Goals as goal
 
 pub returns-then-none_past : goal.returns-then-none_past
-returns-then-none_past c =
-    let a = c.args in
-    nothing_found (at_player (file_fault_number past_142) a.lines.now) (first_from (past_cell a.rounds a.colours.now) 0 (a.n * most_rounds)) (c.none_past.ensures c.if-none_past.true) c.nothing.ensures
+returns-then-none_past c = nothing_found (at_player (file_fault_number past_142) c.args.lines.now.numbers.now) _ (c.none_past.ensures c.if-none_past.true)
 
 pub at_turn-requires : goal.at_turn-requires
 at_turn-requires c =
     let a = c.args in
-    let f = past_cell a.rounds a.colours.now in
-    (c.requires.2, λ turn e. omega (arith, c.requires.0, told_under f (a.n * most_rounds) (told_turn (first_from f 0 (a.n * most_rounds)) c.first_past.ensures e)))
+    let f = past_cell a.rounds a.tables.now.colours.now in
+    λ turn e. omega (arith, c.requires, told_under f (a.n * most_rounds) (told_turn (first_from f 0 (a.n * most_rounds)) c.first_past-found.ensures e))
 
 pub returns : goal.returns
-returns c =
-    let a = c.args in
-    c.at_turn.ensures (first_from (past_cell a.rounds a.colours.now) 0 (a.n * most_rounds)) c.first_past.ensures
+returns c = c.at_turn.ensures _ c.first_past-found.ensures

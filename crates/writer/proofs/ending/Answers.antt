@@ -6,5 +6,5 @@ use Rattle.writer.proofs.ending.Goals as goal
 pub returns-then-cr_alone : goal.returns-then-cr_alone
 returns-then-cr_alone c = sym (ap end_of c.if-cr_alone.true)
 
-pub returns : goal.returns
-returns c = sym (ap end_of c.if-cr_alone.false)
+pub returns-else-cr_alone : goal.returns-else-cr_alone
+returns-else-cr_alone c = sym (ap end_of c.if-cr_alone.false)

@@ -13,5 +13,5 @@ returns-then-c-eq-CR c =
     let e = c.end_wide.ensures in
     (omega arith, omega arith)
 
-pub returns : goal.returns
-returns c = let a = c.args in let k = ap length (kept_byte a.end a.c c.if-c-eq-CR.false) in (omega arith, omega arith)
+pub returns-else-c-eq-CR : goal.returns-else-c-eq-CR
+returns-else-c-eq-CR c = let a = c.args in let k = ap length (kept_byte a.end a.c c.if-c-eq-CR.false) in (omega arith, omega arith)

@@ -19,6 +19,7 @@ whole-requires c =
     (m.1, c.requires, stop-cr s (λ _. c.if-file-start-eq-CR.true), clean-text s)
 
 pub returns-then-file-start-eq-CR : goal.returns-then-file-start-eq-CR
+unfolding StepMeans
 returns-then-file-start-eq-CR c = c.whole.ensures
 
 pub returns-then-file-to : goal.returns-then-file-to
@@ -41,4 +42,5 @@ whole-requires-2 c =
     (c.if-file-to.false, c.requires, stop-cr s (λ _. c.if-file-to-ne-CR.false), clean-text s)
 
 pub returns : goal.returns
+unfolding StepMeans
 returns c = c.whole-2.ensures

@@ -1,9 +1,0 @@
--- The loop counts up to what is asked.
-use Rattle.std.proofs.Common.{◌-◌, ◌≤◌}
-use Rattle.drafts.proofs.put_lines.Given as goal
-
-abbrev pub invariant-loop-k : goal.invariant-loop-k
-invariant-loop-k l = l.k ≤ l.times
-
-abbrev pub decreases-loop-k : goal.decreases-loop-k
-decreases-loop-k l = l.times - l.k

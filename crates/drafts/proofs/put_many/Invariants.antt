@@ -1,9 +1,0 @@
--- The loop counts up to what is asked.
-use Rattle.std.proofs.Common.{◌-◌, ◌≤◌}
-use Rattle.drafts.proofs.put_many.Given as goal
-
-abbrev pub invariant-loop-i : goal.invariant-loop-i
-invariant-loop-i l = l.i ≤ l.times
-
-abbrev pub decreases-loop-i : goal.decreases-loop-i
-decreases-loop-i l = l.times - l.i
