@@ -16,12 +16,15 @@ pub fn fill<T: Copy>(t: &mut [T], n: usize, value: T)
     }
 }
 
-// All of s, from a cell on.
+// All of s, from a cell on. The loop stands here since between two lent slices the library's `copy_from_slice` is compiled to a call of `memmove`, which the
+// archive for C would then need.
 pub fn put<T: Copy>(t: &mut [T], at: usize, s: &[T])
     requires { at + length s.now ≤ length t.old }
     ensures { t.new ≡ paste t.old at s.now (length s.now) }
 {
-    t[at..at + s.len()].copy_from_slice(s);
+    for i in 0..s.len() {
+        t[at + i] = s[i];
+    }
 }
 
 // The N bytes that stand from a cell on.

@@ -1,23 +1,27 @@
 -- Who is named, what a turn's entry says of a law, and that the laws read four tables alone: over plain values, as the code has them. Assumes nothing.
 use mathlib.Core.Path.{◌≡◌, refl}
-use mathlib.Core.Bool.{Bool, false, not}
+use mathlib.Core.Bool.{Bool, false, ◌&&◌, not, and-true}
 use mathlib.Core.Option.{Option, none, some}
 use mathlib.Core.List.{List}
 use Prim.Native.Nat.{ℕ, ◌≤◌, ◌<◌}
 use native.Mathlib.Omega.{arith}
 use borrow.Author.Tests.{le-leb, lt-leb}
+use lib.Dec.{eqb}
 use Rattle.std.specs.Prelude as program
 use Rattle.std.specs.Prelude.{Some, None, IfSome}
+use Rattle.kit.specs.Lists.{among}
 use Rattle.kit.specs.Decides.{is_some}
 use Rattle.types.specs.declared.Place.{Place}
 use Rattle.law.specs.Sizes.{most_players}
+use Rattle.law.specs.Players.{game_colours, held_game_results}
 use Rattle.law.specs.Entries.{Law, bye-or-game, mutual_pairing, fitting_results, one_U}
 use Rattle.join.specs.Grid.{first_from}
 use Rattle.join.specs.Store.{Nine, place_of}
-use Rattle.join.specs.Check.{place_at, round_at, entry_cell, keeps_cell, broken_cell}
+use Rattle.join.specs.Check.{place_at, round_at, entry_cell, is_game_by, keeps_cell, broken_cell}
 use Rattle.join.proofs.Firsts.{first_as}
 use Rattle.index.specs.Index.{as_placed}
-use Rattle.index.proofs.Told.{told-player}
+use Rattle.index.proofs.Told.{told-place, told-player}
+use Rattle.checks.specs.Results.{entry}
 use Rattle.checks.specs.Laws.{four}
 
 -- ---- who is named
@@ -31,6 +35,13 @@ placed_below starts n id {answer} told few = go answer refl
     go : (a : program.Option Place) → answer ≡ a → IfSome a (λ place. place.0 < most_players)
     go None e = tt
     go (Some place) e = omega (arith, few, told-player starts n id told e)
+
+-- ---- a game, where somebody is named
+pub game_somebody : (id colour result start : ℕ) (o : Option ℕ) {placed : program.Option Place} {place : Place} {of_colour of_result : Bool}
+    → placed ≡ as_placed o → placed ≡ Some place → of_colour ≡ among colour game_colours → of_result ≡ among result held_game_results
+    → not (eqb id start) && of_colour && of_result ≡ is_game_by (entry id colour result) start o
+unfolding is_game_by
+game_somebody id colour result start o a b p q = rw (told-place o a b, and-true (not (eqb id start)), p, q) refl
 
 -- ---- the entry of turn k
 module _ (law : Law) (n R : ℕ) (t : Nine) (k : ℕ) {round : ℕ} (at-round : round ≡ round_at k) where

@@ -30,7 +30,7 @@ four starts opponents colours results =
     record { starts = starts; points = []; ranks = []; kept = []; opponents = opponents; colours = colours; results = results; text = []; lines = [] }
 
 abbrev pub four_of : Entries → Nine
-four_of e = four e.tables.starts.now e.tables.opponents.now e.tables.colours.now e.tables.results.now
+four_of e = four e.starts.now e.opponents.now e.colours.now e.results.now
 
 -- a look may be had at each place and round
 abbrev pub Anywhere : (Place → ℕ → Type 0) → Type 0

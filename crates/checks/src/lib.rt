@@ -77,7 +77,7 @@ fn is_game(
 
 // Who has a start number, of the players whose entries are looked at.
 pub fn player_of(entries: &Entries<'_, '_>, id: StartNumber) -> Option<Place>
-    ensures found { result ≡ as_placed (place_of entries.now.tables.starts.now entries.now.players id.0) }
+    ensures found { result ≡ as_placed (place_of entries.now.starts.now entries.now.players id.0) }
     ensures place { IfSome result (λ place. place.0 < most_players) }
 {
     index::place_of(entries.index, id)
@@ -90,10 +90,10 @@ fn keeps_bye_or_game(entries: &Entries<'_, '_>, place: Place, round: u32) -> boo
     requires last { round ≤ most_rounds }
     ensures { result ≡ keeps_cell bye-or-game entries.now.players (four_of entries.now) place.0 round }
 {
-    let id = entries.tables.opponent_at(place, round);
-    let colour = entries.tables.colour_at(place, round);
-    let result = entries.tables.result_at(place, round);
-    let start = entries.tables.start_at(place);
+    let id = entries.opponent_at(place, round);
+    let colour = entries.colour_at(place, round);
+    let result = entries.result_at(place, round);
+    let start = entries.start_at(place);
     is_bye(id, colour, result) || is_game(id, colour, result, start, player_of(entries, id))
 }
 
@@ -104,14 +104,14 @@ fn keeps_mutual(entries: &Entries<'_, '_>, place: Place, round: u32) -> bool
     requires last { round ≤ most_rounds }
     ensures { result ≡ keeps_cell mutual_pairing entries.now.players (four_of entries.now) place.0 round }
 {
-    let id = entries.tables.opponent_at(place, round);
+    let id = entries.opponent_at(place, round);
     let Some(other) = player_of(entries, id) else {
         return true;
     };
-    let start = entries.tables.start_at(place);
-    let named = entries.tables.opponent_at(other, round);
-    let colour = entries.tables.colour_at(place, round);
-    let theirs = entries.tables.colour_at(other, round);
+    let start = entries.start_at(place);
+    let named = entries.opponent_at(other, round);
+    let colour = entries.colour_at(place, round);
+    let theirs = entries.colour_at(other, round);
     (named.0 == start.0) & (theirs != colour)
 }
 
@@ -122,12 +122,12 @@ fn keeps_fitting(entries: &Entries<'_, '_>, grid: &Grid, place: Place, round: u3
     requires last { round ≤ most_rounds }
     ensures { result ≡ keeps_cell fitting_results entries.now.players (four_of entries.now) place.0 round }
 {
-    let id = entries.tables.opponent_at(place, round);
+    let id = entries.opponent_at(place, round);
     let Some(other) = player_of(entries, id) else {
         return true;
     };
-    let result = entries.tables.result_at(place, round);
-    let theirs = entries.tables.result_at(other, round);
+    let result = entries.result_at(place, round);
+    let theirs = entries.result_at(other, round);
     grid.fits(result, theirs)
 }
 
@@ -149,9 +149,9 @@ fn first_unkept<F: Fn(Place, u32) -> bool>(entries: &Entries<'_, '_>, keeps: F) 
 // Whether the result of a turn is U.
 fn has_u(entries: &Entries<'_, '_>, turn: Turn) -> bool
     requires { turn.0 < entry_cells }
-    ensures { result ≡ has_uat entries.now.tables.results.now (place_at turn.0) (round_at turn.0) }
+    ensures { result ≡ has_uat entries.now.results.now (place_at turn.0) (round_at turn.0) }
 {
-    results::is_allocated(entries.tables.result_at(turn.place(), turn.round()))
+    results::is_allocated(entries.result_at(turn.place(), turn.round()))
 }
 
 // The first turn with a U in a round in which an earlier player has one: a flag for each round says whether one had.

@@ -1,9 +1,9 @@
 -- The first of the first n records that shares with an earlier one is that of a list of these n alone. Assumes nothing.
-use mathlib.Core.Path.{◌≡◌, sym, ap₂, ◌∙◌}
+use mathlib.Core.Path.{◌≡◌, ap₂}
 use mathlib.Core.List.{List}
 use Prim.Native.Nat.{ℕ, ◌≤◌, ◌<◌}
 use native.Mathlib.Omega.{arith}
-use lib.ListN.{length, get_or, take}
+use lib.ListN.{length, take}
 use lib.Seq.{get_or-take, length-take-le}
 use Rattle.types.specs.declared.Acceleration.{Acceleration}
 use Rattle.law.specs.Accelerations.{shares}

@@ -1,5 +1,5 @@
 -- Values that are points.
-use Rattle.std.specs.Prelude.{◌≡◌, Bool, true, List, ℕ, leb}
+use Rattle.std.specs.Prelude.{Bool, List, ℕ, leb}
 use Rattle.kit.specs.Lists.{all}
 use Rattle.law.specs.Sizes.{most_points}
 

@@ -16,58 +16,62 @@ ghost use Rattle.closings.specs.Values.{are_small};
 ghost use Rattle.closings.specs.Closing.{ClosesRow};
 
 use results::Worths;
-use tables::Tables;
 use turns::{RecordNumber, Turn};
 use types::{Acceleration, MOST_ROUNDS, Place, VALUES};
 
 // Whether the cell of a turn holds anything.
-fn is_seen(tables: &Tables<'_>, turn: Turn) -> bool
-    requires { turn.0 < entry_cells }
-    ensures { result ≡ is_seen tables.now.colours.now turn.0 }
+fn is_seen(colours: &[u8], turn: Turn) -> bool
+    requires turn { turn.0 < entry_cells }
+    requires long { entry_cells ≤ length colours.now }
+    ensures { result ≡ is_seen colours.now turn.0 }
 {
-    tables.colour_at(turn.place(), turn.round()) != 0
+    tables::letter_at(colours, turn.place(), turn.round()) != 0
 }
 
 // The round of a turn whose cell holds anything, or 0.
-fn round_seen(tables: &Tables<'_>, turn: Turn) -> u32
-    requires { turn.0 < entry_cells }
-    ensures { result ≡ round_seen tables.now.colours.now turn.0 }
+fn round_seen(colours: &[u8], turn: Turn) -> u32
+    requires turn { turn.0 < entry_cells }
+    requires long { entry_cells ≤ length colours.now }
+    ensures { result ≡ round_seen colours.now turn.0 }
 {
-    if is_seen(tables, turn) {
+    if is_seen(colours, turn) {
         return turn.round();
     }
     0
 }
 
 // The highest round in which a player has a cell that is not zero, or 0.
-pub fn rounds_seen(tables: &Tables<'_>, n: usize) -> u32
-    requires { n ≤ most_players }
-    ensures { result ≡ rounds_seen tables.now.colours.now n }
+pub fn rounds_seen(colours: &[u8], n: usize) -> u32
+    requires players { n ≤ most_players }
+    requires long { entry_cells ≤ length colours.now }
+    ensures { result ≡ rounds_seen colours.now n }
 {
     let mut most = 0;
     for k in 0..n * MOST_ROUNDS {
-        most = round_seen(tables, Turn(k)).max(most);
+        most = round_seen(colours, Turn(k)).max(most);
     }
     most
 }
 
 // Whether a turn is past the rounds that there are and its cell holds anything.
-fn is_past(rounds: u32, tables: &Tables<'_>, turn: Turn) -> bool
-    requires { turn.0 < entry_cells }
-    ensures { result ≡ past_cell rounds tables.now.colours.now turn.0 }
+fn is_past(rounds: u32, colours: &[u8], turn: Turn) -> bool
+    requires turn { turn.0 < entry_cells }
+    requires long { entry_cells ≤ length colours.now }
+    ensures { result ≡ past_cell rounds colours.now turn.0 }
 {
-    let seen = is_seen(tables, turn);
+    let seen = is_seen(colours, turn);
     let round = turn.round();
     (rounds < round) & seen
 }
 
 // The first such turn of n players.
-pub fn first_past(tables: &Tables<'_>, n: usize, rounds: u32) -> Option<Turn>
-    requires { n ≤ most_players }
-    ensures { result ≡ as_found_turn (first_from (past_cell rounds tables.now.colours.now) 0 (n * most_rounds)) }
+pub fn first_past(colours: &[u8], n: usize, rounds: u32) -> Option<Turn>
+    requires players { n ≤ most_players }
+    requires long { entry_cells ≤ length colours.now }
+    ensures { result ≡ as_found_turn (first_from (past_cell rounds colours.now) 0 (n * most_rounds)) }
 {
     for k in 0..n * MOST_ROUNDS {
-        if is_past(rounds, tables, Turn(k)) {
+        if is_past(rounds, colours, Turn(k)) {
             return Some(Turn(k));
         }
     }
@@ -152,55 +156,62 @@ pub fn close(t: &mut [u8], n: usize, rounds: u32, letter: u8)
 }
 
 // What a player earned in the first rounds.
-fn sum_by(tables: &Tables<'_>, worths: &Worths, place: Place, rounds: u32) -> u32
+fn sum_by(results: &[u8], worths: &Worths, place: Place, rounds: u32) -> u32
     requires place { place.0 < most_players }
     requires rounds { rounds ≤ most_rounds }
+    requires long { entry_cells ≤ length results.now }
     requires small { are_small worths.now.values ≡ true }
-    ensures { result ≡ sum_at worths.now.values tables.now.results.now place.0 rounds }
+    ensures { result ≡ sum_at worths.now.values results.now place.0 rounds }
 {
     let mut sum = 0;
     for j in 0..rounds {
-        sum += worths.of(tables.result_at(place, j + 1));
+        sum += worths.of(tables::letter_at(results, place, j + 1));
     }
     sum
 }
 
 // The same by the values of W D L A P X.
-pub fn sum_of(tables: &Tables<'_>, values: [u32; VALUES], place: Place, rounds: u32) -> u32
+pub fn sum_of(results: &[u8], values: [u32; VALUES], place: Place, rounds: u32) -> u32
     requires place { place.0 < most_players }
     requires rounds { rounds ≤ most_rounds }
+    requires long { entry_cells ≤ length results.now }
     requires small { are_small values ≡ true }
-    ensures { result ≡ sum_at values tables.now.results.now place.0 rounds }
+    ensures { result ≡ sum_at values results.now place.0 rounds }
 {
-    sum_by(tables, &Worths::new(values), place, rounds)
+    sum_by(results, &Worths::new(values), place, rounds)
 }
 
 // Whether a player's stated points are not the sum.
-fn is_wrong_sum(tables: &Tables<'_>, worths: &Worths, place: Place, rounds: u32) -> bool
+fn is_wrong_sum(points: &[u32], results: &[u8], worths: &Worths, place: Place, rounds: u32) -> bool
     requires place { place.0 < most_players }
     requires rounds { rounds ≤ most_rounds }
+    requires points_long { most_players ≤ length points.now }
+    requires results_long { entry_cells ≤ length results.now }
     requires small { are_small worths.now.values ≡ true }
-    ensures { result ≡ wrong_sum worths.now.values tables.now.points.now tables.now.results.now rounds place.0 }
+    ensures { result ≡ wrong_sum worths.now.values points.now results.now rounds place.0 }
 {
-    tables.points_at(place) != sum_by(tables, worths, place, rounds)
+    tables::points_at(points, place) != sum_by(results, worths, place, rounds)
 }
 
 // The first player whose stated points are not the sum.
 pub fn first_wrong_sum(
-    tables: &Tables<'_>,
+    points: &[u32],
+    results: &[u8],
     values: [u32; VALUES],
     n: usize,
     rounds: u32,
 ) -> Option<Place>
     requires players { n ≤ most_players }
     requires rounds { rounds ≤ most_rounds }
+    requires points_long { most_players ≤ length points.now }
+    requires results_long { entry_cells ≤ length results.now }
     requires small { are_small values ≡ true }
-    ensures { result ≡ as_placed (first_from (wrong_sum values tables.now.points.now tables.now.results.now rounds) 0 n) }
+    ensures { result ≡ as_placed (first_from (wrong_sum values points.now results.now rounds) 0 n) }
 {
     let worths = Worths::new(values);
     for p in 0..n {
         let place = Place(p as u32);
-        if is_wrong_sum(tables, &worths, place, rounds) {
+        if is_wrong_sum(points, results, &worths, place, rounds) {
             return Some(place);
         }
     }

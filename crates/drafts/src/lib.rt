@@ -22,14 +22,14 @@ ghost use Rattle.std.specs.Option.{ForSome};
 ghost use Rattle.drafts.specs.declared.TheConstants.{ROOM};
 
 pub use prints::{MARK, count, print_counts, print_lines, print_name, print_text};
-pub use rows::{low_byte, number, take_rows, without_blanks};
+pub use rows::{MOST_ROWS, low_byte, number, read_rows, take_rows, without_blanks};
 pub use tables::{ENTRIES, KEPT, LINES, Lent, PLAYERS, RECORDS, TEXT, Tables};
 
 // One byte more than a file may have.
 pub const ROOM: usize = types::MOST_FILE + 1;
 
 // What rows have made: the bytes, where they end, and where the file ends before that, once it is closed and another text stands after it.
-#[derive(Drop)]
+#[derive(Clone, Copy)]
 pub struct Draft {
     bytes: [u8; ROOM],
     end: usize,

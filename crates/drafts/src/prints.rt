@@ -23,11 +23,15 @@ pub fn print_lines(rt: &impl Print, bytes: &[u8]) {
     }
 }
 
-// How many cells hold a value.
+// How many cells hold a value: no branch, so that many cells are compared at a time.
 pub fn count<T: Copy + PartialEq>(cells: &[T], value: T) -> usize
     ensures { result ≤ length cells.now }
 {
-    cells.iter().filter(|cell| **cell == value).count()
+    let mut n = 0;
+    for cell in cells {
+        n += usize::from(*cell == value);
+    }
+    n
 }
 
 // Of one table: the cells that hold zero, and those that hold the mark.

@@ -6,7 +6,7 @@ use crate::Draft;
 use std::io::Read;
 
 // The bytes of rows that are read.
-const MOST_ROWS: usize = 65536;
+pub const MOST_ROWS: usize = 65536;
 
 // What one read gives; a read that fails gives nothing.
 fn read_some(input: &mut impl Read, room: &mut [u8]) -> usize
@@ -16,7 +16,7 @@ fn read_some(input: &mut impl Read, room: &mut [u8]) -> usize
 }
 
 // Reads until there is no room, the input ends or a read fails. Answers how many bytes were read.
-fn read_rows(input: &mut impl Read, rows: &mut [u8]) -> usize
+pub fn read_rows(input: &mut impl Read, rows: &mut [u8]) -> usize
     ensures { IsPrefixLen result rows.new }
 {
     let mut n = 0;

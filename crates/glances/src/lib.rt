@@ -6,6 +6,7 @@ ghost use Rattle.std.specs.Prelude.{◌≡◌, true, ◌*◌, ◌≤◌, ◌<◌
 ghost use Rattle.std.proofs.Math.Option.{none};
 ghost use Rattle.law.specs.Sizes.{most_players, most_rounds};
 ghost use Rattle.law.specs.Entries.{Law};
+ghost use Rattle.law.specs.Tables.{entry_cells};
 ghost use Rattle.join.specs.Grid.{first_from};
 ghost use Rattle.join.specs.Check.{past_cell, broken_cell};
 ghost use Rattle.checks.specs.Laws.{four_of};
@@ -13,7 +14,6 @@ ghost use Rattle.glances.specs.Glance.{Opposite, KeepsEntry, KeepsRow, KeepsRows
 
 use index::Entries;
 use results::Grid;
-use tables::Tables;
 use types::{MOST_ROUNDS, Place, StartNumber};
 
 // Whether two colours are those of one game.
@@ -38,19 +38,19 @@ fn keeps_entry(
     requires place { place.0 < most_players }
     requires first { 1 ≤ round }
     requires last { round ≤ most_rounds }
-    ensures { result ≡ true → get_or entries.now.tables.starts.now place.0 0 ≡ start.0 → KeepsEntry entries.now.players (four_of entries.now) place.0 round }
+    ensures { result ≡ true → get_or entries.now.starts.now place.0 0 ≡ start.0 → KeepsEntry entries.now.players (four_of entries.now) place.0 round }
 {
-    let id = entries.tables.opponent_at(place, round);
-    let colour = entries.tables.colour_at(place, round);
-    let result = entries.tables.result_at(place, round);
+    let id = entries.opponent_at(place, round);
+    let colour = entries.colour_at(place, round);
+    let result = entries.result_at(place, round);
     let Some(other) = checks::player_of(entries, id) else {
         return checks::is_bye(id, colour, result);
     };
-    let named = entries.tables.opponent_at(other, round);
+    let named = entries.opponent_at(other, round);
     let mutual = (id.0 != start.0) & (named.0 == start.0);
     mutual
-        && are_opposite(colour, entries.tables.colour_at(other, round))
-        && grid.fits(result, entries.tables.result_at(other, round))
+        && are_opposite(colour, entries.colour_at(other, round))
+        && grid.fits(result, entries.result_at(other, round))
 }
 
 // Whether a player's entries do, up to a round.
@@ -59,7 +59,7 @@ fn keeps_row(entries: &Entries<'_, '_>, grid: &Grid, place: Place) -> bool
     requires rounds { entries.now.rounds ≤ most_rounds }
     ensures { result ≡ true → KeepsRow entries.now.players (four_of entries.now) place.0 entries.now.rounds }
 {
-    let start = entries.tables.start_at(place);
+    let start = entries.start_at(place);
     (0..entries.rounds).all(|j| keeps_entry(entries, grid, place, start, j + 1))
 }
 
@@ -72,14 +72,15 @@ fn keeps_rows(entries: &Entries<'_, '_>, grid: &Grid) -> bool
 }
 
 // Notes the rounds in which a player has U. Whether an earlier player had it in one of them: no exit, so that many rounds are compared at a time.
-fn note_u(tables: &Tables<'_>, place: Place, seen: &mut [bool; MOST_ROUNDS]) -> bool
+fn note_u(results: &[u8], place: Place, seen: &mut [bool; MOST_ROUNDS]) -> bool
     requires place { place.0 < most_players }
-    requires long { length seen.old ≡ most_rounds }
-    ensures { Noted tables.now.results.now place.0 seen.old seen.new result }
+    requires long { entry_cells ≤ length results.now }
+    requires flags { length seen.old ≡ most_rounds }
+    ensures { Noted results.now place.0 seen.old seen.new result }
 {
     let mut again = false;
     for j in 0..MOST_ROUNDS {
-        let here = results::is_allocated(tables.result_at(place, j as u32 + 1));
+        let here = results::is_allocated(tables::letter_at(results, place, j as u32 + 1));
         let earlier = seen[j];
         again = again | (here & earlier);
         seen[j] = earlier | here;
@@ -89,11 +90,11 @@ fn note_u(tables: &Tables<'_>, place: Place, seen: &mut [bool; MOST_ROUNDS]) -> 
 
 // Whether no two players have U in one round.
 fn keeps_one_u(entries: &Entries<'_, '_>) -> bool
-    ensures { result ≡ true → OnceU entries.now.tables.results.now entries.now.players }
+    ensures { result ≡ true → OnceU entries.now.results.now entries.now.players }
 {
     let mut seen = [false; MOST_ROUNDS];
     for p in 0..entries.players {
-        if note_u(&entries.tables, Place(p as u32), &mut seen) {
+        if note_u(entries.results, Place(p as u32), &mut seen) {
             return false;
         }
     }
@@ -101,23 +102,25 @@ fn keeps_one_u(entries: &Entries<'_, '_>) -> bool
 }
 
 // Whether the colours of a place hold zero from a round on, counted from 0: no exit, so that many rounds are compared at a time.
-fn is_row_blank(tables: &Tables<'_>, place: Place, from: u32) -> bool
-    requires { place.0 < most_players }
-    ensures { result ≡ true → BlankRow tables.now.colours.now place.0 from }
+fn is_row_blank(colours: &[u8], place: Place, from: u32) -> bool
+    requires place { place.0 < most_players }
+    requires long { entry_cells ≤ length colours.now }
+    ensures { result ≡ true → BlankRow colours.now place.0 from }
 {
     let mut good = true;
     for j in from as usize..MOST_ROUNDS {
-        good = good & (tables.colour_at(place, j as u32 + 1) == 0);
+        good = good & (tables::letter_at(colours, place, j as u32 + 1) == 0);
     }
     good
 }
 
 // Whether no cell of the players past the rounds that there are holds anything.
-pub fn none_past(tables: &Tables<'_>, players: usize, rounds: u32) -> bool
-    requires { players ≤ most_players }
-    ensures { result ≡ true → first_from (past_cell rounds tables.now.colours.now) 0 (players * most_rounds) ≡ none }
+pub fn none_past(colours: &[u8], players: usize, rounds: u32) -> bool
+    requires players { players ≤ most_players }
+    requires long { entry_cells ≤ length colours.now }
+    ensures { result ≡ true → first_from (past_cell rounds colours.now) 0 (players * most_rounds) ≡ none }
 {
-    (0..players).all(|p| is_row_blank(tables, Place(p as u32), rounds))
+    (0..players).all(|p| is_row_blank(colours, Place(p as u32), rounds))
 }
 
 // Whether every entry of the players, up to a round, keeps the four laws.

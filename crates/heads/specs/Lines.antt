@@ -2,7 +2,7 @@
 use Rattle.std.specs.Prelude.{List, ◌∷◌, ◌++◌, ℕ, ◌+◌, get_or}
 use Rattle.law.specs.Columns.{blank, width, code_field}
 use Rattle.law.specs.Scoring.{Scoring, slot_fields}
-use Rattle.law.specs.Accelerations.{last_start_field}
+use Rattle.law.specs.Accelerations.{first_round_field, first_start_field, last_start_field}
 use Rattle.law.specs.Writing.{blanks, filled, noughts, points_text}
 
 -- first and last of something in a 250 line, in w columns each with a column between them
@@ -11,6 +11,13 @@ span_text w first last = filled noughts w first ++ (blanks 1 ++ filled noughts w
 
 abbrev pub span_wide : ℕ → ℕ
 span_wide w = w + (1 + w)
+
+-- how many columns a round has there, and a start number
+abbrev pub round_wide : ℕ
+round_wide = width first_round_field
+
+abbrev pub start_wide : ℕ
+start_wide = width first_start_field
 
 abbrev pub acceleration_wide : ℕ
 acceleration_wide = last_start_field.1

@@ -8,10 +8,10 @@ ghost use Rattle.law.specs.Sizes.{most_rounds};
 ghost use Rattle.law.specs.Writing.{rounds_line, colour_line, scoring_line, acceleration_line};
 ghost use Rattle.puts.specs.Puts.{Puts};
 ghost use Rattle.puts.specs.Ends.{end_wide, ended_by};
-ghost use Rattle.heads.specs.Lines.{span_text, span_wide, acceleration_wide, value_text, slot_wide, scoring_in, scoring_wide};
+ghost use Rattle.heads.specs.Lines.{span_text, span_wide, round_wide, start_wide, acceleration_wide, value_text, slot_wide, scoring_in, scoring_wide};
 
 use puts::{BETWEEN, START_COLUMNS, Terminator};
-use types::{ABSENT, Acceleration, DRAW, LOSS, PAIRING, UNKNOWN, VALUES, WIN};
+use types::{ABSENT, Acceleration, DRAW, LOSS, PAIRING, StartNumber, UNKNOWN, VALUES, WIN};
 
 // How many columns the rounds of a 250 line have.
 const ROUND_COLUMNS: usize = 3;
@@ -43,7 +43,7 @@ pub fn put_colour(out: &mut [u8], at: usize, colour: u8) -> usize
     puts::put_letter(out, at, colour)
 }
 
-// Two number fields of one width with a column between them, filled with zeros: first and last round, or start number; `records::span_at` reads them.
+// Two number fields of one width with a column between them, filled with zeros; `records::span_at` reads them.
 fn put_span(out: &mut [u8], at: usize, width: usize, first: u32, last: u32) -> usize
     requires { (1 ≤ width) × (at + span_wide width ≤ length out.old) }
     ensures { Puts (span_text width first last) (span_wide width) at out.old out.new result }
@@ -51,6 +51,22 @@ fn put_span(out: &mut [u8], at: usize, width: usize, first: u32, last: u32) -> u
     let at = puts::put_number(out, at, width, first, b'0');
     let at = puts::put_blanks(out, at, BETWEEN);
     puts::put_number(out, at, width, last, b'0')
+}
+
+// First and last round; `records::round_span_at` reads them.
+fn put_round_span(out: &mut [u8], at: usize, first: u32, last: u32) -> usize
+    requires { at + span_wide round_wide ≤ length out.old }
+    ensures { Puts (span_text round_wide first last) (span_wide round_wide) at out.old out.new result }
+{
+    put_span(out, at, ROUND_COLUMNS, first, last)
+}
+
+// First and last start number; `records::start_span_at` reads them.
+fn put_start_span(out: &mut [u8], at: usize, first: StartNumber, last: StartNumber) -> usize
+    requires { at + span_wide start_wide ≤ length out.old }
+    ensures { Puts (span_text start_wide first.0 last.0) (span_wide start_wide) at out.old out.new result }
+{
+    put_span(out, at, START_COLUMNS, first.0, last.0)
 }
 
 // 250; `records::acceleration_of` reads it.
@@ -62,9 +78,10 @@ fn put_acceleration(out: &mut [u8], at: usize, a: Acceleration) -> usize
     let at = puts::put_blanks(out, at, BEFORE_ADDED);
     let at = puts::put_points(out, at, a.points, b'0');
     let at = puts::put_blanks(out, at, BETWEEN);
-    let at = put_span(out, at, ROUND_COLUMNS, a.first_round, a.last_round);
+    let at = put_round_span(out, at, a.first_round, a.last_round);
     let at = puts::put_blanks(out, at, BETWEEN);
-    put_span(out, at, START_COLUMNS, a.first_start, a.last_start)
+    let first = StartNumber(a.first_start);
+    put_start_span(out, at, first, StartNumber(a.last_start))
 }
 
 // The acceleration records, each with its terminator.

@@ -8,7 +8,7 @@ ghost use Rattle.kit.specs.Lists.{between};
 ghost use Rattle.law.specs.Sizes.{most_players, most_rounds, most_accelerations, most_points, is_start, is_rank};
 ghost use Rattle.law.specs.Accelerations.{is_acceleration};
 ghost use Rattle.law.specs.Lawful.{no_acceleration};
-ghost use Rattle.law.specs.Tables.{entry_cells, cell_of};
+ghost use Rattle.law.specs.Tables.{kept_cells, entry_cells, cell_of};
 ghost use Rattle.join.specs.Store.{place_of};
 ghost use Rattle.index.specs.Index.{IndexOf, Indexed};
 ghost use Rattle.texts.specs.Kept.{Told};
@@ -17,7 +17,6 @@ ghost use Rattle.held.specs.Rows.{HasKept, unused_from, UnusedRow};
 ghost use Rattle.held.specs.Runs.{Anywhere, Every};
 
 use index::START_CELLS;
-use tables::Tables;
 use types::{
     Acceleration, MOST_ACCELERATIONS, MOST_PLAYERS, MOST_POINTS, MOST_RANK, MOST_ROUNDS,
     MOST_START, Place,
@@ -166,33 +165,36 @@ pub fn accelerations_are(records: &[Acceleration; MOST_ACCELERATIONS], n: usize)
 }
 
 // Whether a place has a player's kept columns.
-fn has_kept(tables: &Tables<'_>, place: Place) -> bool
-    requires { place.0 < most_players }
-    ensures { Told (HasKept tables.now.kept.now place.0) result }
+fn has_kept(kept: &[u8], place: Place) -> bool
+    requires place { place.0 < most_players }
+    requires long { kept_cells ≤ length kept.now }
+    ensures { Told (HasKept kept.now place.0) result }
 {
-    let kept = tables.kept_at(place);
-    lines::all_allowed(&kept) && kept_columns::is_kept(kept)
+    let columns = tables::kept_at(kept, place);
+    lines::all_allowed(&columns) && kept_columns::is_kept(columns)
 }
 
 // Whether the first n players have kept columns.
-pub fn kept_are(tables: &Tables<'_>, n: usize) -> bool
-    requires { n ≤ most_players }
-    ensures { Told ((p : ℕ) → p < n → HasKept tables.now.kept.now p) result }
+pub fn kept_are(kept: &[u8], n: usize) -> bool
+    requires players { n ≤ most_players }
+    requires long { kept_cells ≤ length kept.now }
+    ensures { Told ((p : ℕ) → p < n → HasKept kept.now p) result }
 {
-    every(0, n, |p| has_kept(tables, Place(p as u32)))
+    every(0, n, |p| has_kept(kept, Place(p as u32)))
 }
 
 // Whether the first n start numbers differ. The index comes in as that of no player; if they do, it is theirs.
-pub fn starts_differ(tables: &Tables<'_>, n: usize, index: &mut [u8; START_CELLS]) -> bool
+pub fn starts_differ(starts: &[u32], n: usize, index: &mut [u8; START_CELLS]) -> bool
     requires players { n ≤ most_players }
-    requires starts { (p : ℕ) → p < n → is_start (get_or tables.now.starts.now p 0) ≡ true }
-    requires empty { IndexOf tables.now.starts.now 0 index.old }
-    ensures told { Told ((p : ℕ) → p < n → place_of tables.now.starts.now p (get_or tables.now.starts.now p 0) ≡ none) result }
-    ensures theirs { result ≡ true → Indexed tables.now.starts.now n index.new }
+    requires long { n ≤ length starts.now }
+    requires starts { (p : ℕ) → p < n → is_start (get_or starts.now p 0) ≡ true }
+    requires empty { IndexOf starts.now 0 index.old }
+    ensures told { Told ((p : ℕ) → p < n → place_of starts.now p (get_or starts.now p 0) ≡ none) result }
+    ensures theirs { result ≡ true → Indexed starts.now n index.new }
 {
     for p in 0..n {
         let place = Place(p as u32);
-        let start = tables.start_at(place);
+        let start = tables::start_at(starts, place);
         if index::place_of(index, start).is_some() {
             return false;
         }

@@ -2,25 +2,69 @@
 // the start numbers answers, and one player more in the index is one cell changed.
 #![tactic(auto)]
 
-ghost use Rattle.std.specs.Prelude.{◌≡◌, List, ℕ, ◌+◌, ◌≤◌, ◌<◌, set};
-ghost use Rattle.law.specs.Sizes.{most_players, most_start};
+ghost use Rattle.std.specs.Prelude.{◌≡◌, List, ℕ, ◌+◌, ◌≤◌, ◌<◌, length, get_or, set};
+ghost use Rattle.law.specs.Sizes.{most_players, most_rounds, most_start};
+ghost use Rattle.law.specs.Tables.{entry_cells, cell_of};
 ghost use Rattle.join.specs.Store.{place_of};
 ghost use Rattle.index.specs.Index.{IndexOf, LowStarts, Indexed, as_placed};
 
-use tables::Tables;
 use types::{MOST_START, Place, StartNumber};
 
 // The index of the start numbers has a cell for each: the place of its player plus one, or 0.
 pub const START_CELLS: usize = MOST_START as usize + 1;
 
-// The entries of some players up to a round, and the index of these players' start numbers.
+// The entries of some players up to a round, and the index of these players' start numbers: the tables that the four laws look at, each long enough.
 #[derive(Clone, Copy)]
 pub struct Entries<'t, 'i> {
-    pub tables: Tables<'t>,
+    pub starts: &'t [u32],
+    pub opponents: &'t [u32],
+    pub colours: &'t [u8],
+    pub results: &'t [u8],
     pub index: &'i [u8; START_CELLS],
     pub players: usize,
     pub rounds: u32,
-    pub ghost indexed: { Indexed tables.starts.now players index.now },
+    pub ghost starts_long: { most_players ≤ length starts.now },
+    pub ghost opponents_long: { entry_cells ≤ length opponents.now },
+    pub ghost colours_long: { entry_cells ≤ length colours.now },
+    pub ghost results_long: { entry_cells ≤ length results.now },
+    pub ghost indexed: { Indexed starts.now players index.now },
+}
+
+impl Entries<'_, '_> {
+    // What a player has: the start number, and in a round the opponent's, the colour and the result.
+    pub fn start_at(&self, place: Place) -> StartNumber
+        requires { place.0 < most_players }
+        ensures { result.0 ≡ get_or self.now.starts.now place.0 0 }
+    {
+        tables::start_at(self.starts, place)
+    }
+
+    pub fn opponent_at(&self, place: Place, round: u32) -> StartNumber
+        requires place { place.0 < most_players }
+        requires first { 1 ≤ round }
+        requires last { round ≤ most_rounds }
+        ensures { result.0 ≡ get_or self.now.opponents.now (cell_of place.0 round) 0 }
+    {
+        tables::opponent_at(self.opponents, place, round)
+    }
+
+    pub fn colour_at(&self, place: Place, round: u32) -> u8
+        requires place { place.0 < most_players }
+        requires first { 1 ≤ round }
+        requires last { round ≤ most_rounds }
+        ensures { result ≡ get_or self.now.colours.now (cell_of place.0 round) 0 }
+    {
+        tables::letter_at(self.colours, place, round)
+    }
+
+    pub fn result_at(&self, place: Place, round: u32) -> u8
+        requires place { place.0 < most_players }
+        requires first { 1 ≤ round }
+        requires last { round ≤ most_rounds }
+        ensures { result ≡ get_or self.now.results.now (cell_of place.0 round) 0 }
+    {
+        tables::letter_at(self.results, place, round)
+    }
 }
 
 // One player more in the index.

@@ -10,3 +10,4 @@ pub mod Checks
 pub mod Whole
 pub mod Verdict
 pub mod Reading
+pub mod Numbered

@@ -1,19 +1,17 @@
 -- The verdict, one check after another. Assumes nothing.
 use mathlib.Core.Path.{◌≡◌, refl, sym, ap, ◌∙◌}
-use mathlib.Core.Bool.{Bool, true, false, cond}
+use mathlib.Core.Bool.{true, false, cond}
 use mathlib.Core.Option.{Option, none, some}
 use mathlib.Core.List.{List, [], ◌∷◌}
-use Prim.Native.Nat.{ℕ, ◌+◌, ◌*◌}
-use native.Mathlib.Omega.{arith}
+use Prim.Native.Nat.{ℕ, ◌+◌}
 use lib.ListN.{get_or}
 use Rattle.kit.specs.Decides.{to, or_else}
-use Rattle.kit.proofs.Decided.{no_some}
-use Rattle.law.specs.Sizes.{most_players, most_rounds}
-use Rattle.law.specs.Entries.{Law, bye-or-game, mutual_pairing, fitting_results, one_U}
-use Rattle.law.specs.Refusals.{Refusal, refusal, file_fault_number, incomplete, past_142, shared, unlawful, wrong_sum_lem}
+use Rattle.law.specs.Sizes.{most_players}
+use Rattle.law.specs.Entries.{bye-or-game, mutual_pairing, fitting_results, one_U}
+use Rattle.law.specs.Refusals.{Refusal, refusal, file_fault_number, incomplete, shared, wrong_sum_lem}
 use Rattle.join.specs.Grid.{first_from}
 use Rattle.join.specs.Store.{Nine, Count}
-use Rattle.join.specs.Check.{rounds_seen, rounds_found, past_cell, shared_record, wrong_sum, broken_cell, at_player, broken_by, verdict}
+use Rattle.join.specs.Check.{rounds_seen, rounds_found, shared_record, wrong_sum, broken_by, verdict}
 use Rattle.std.specs.Prelude as program
 use Rattle.std.specs.Prelude.{Some, None}
 use Rattle.scorings.specs.declared.Scoring.{Scoring}

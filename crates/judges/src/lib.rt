@@ -2,22 +2,23 @@
 // whole file, over the cells.
 #![tactic(auto)]
 
-ghost use Rattle.std.specs.Prelude.{◌≡◌, true, ◌≤◌, ℕ, length, take, IfOk};
-ghost use Rattle.law.specs.Sizes.{most_players, most_rounds};
+ghost use Rattle.std.specs.Prelude.{◌≡◌, true, ◌≤◌, ℕ, length, take};
+ghost use Rattle.law.specs.Sizes.{most_players, most_rounds, most_accelerations};
+ghost use Rattle.law.specs.Tables.{entry_cells};
 ghost use Rattle.join.specs.Store.{Nine};
-ghost use Rattle.join.specs.Check.{rounds_found, verdict, Closes};
+ghost use Rattle.join.specs.Check.{rounds_found, verdict};
 ghost use Rattle.index.specs.Index.{Indexed};
 ghost use Rattle.closings.specs.Values.{are_small};
-ghost use Rattle.tables.specs.Lent.{nine_of, SameLent};
+ghost use Rattle.tables.specs.Lent.{SameClosing};
 ghost use Rattle.verdicts.specs.Verdict.{refusal_in};
-ghost use Rattle.steps.specs.Counts.{as_count, values_by};
-ghost use Rattle.judges.specs.Closing.{is_complete, past_in};
+ghost use Rattle.steps.specs.Counts.{as_count, values_by, Small};
+ghost use Rattle.judges.specs.Closing.{is_complete, past_in, dash, zed, ClosedBy};
 
 use index::{Entries, START_CELLS};
 use results::BLANK_BYE;
 use scorings::Scoring;
 use steps::Counts;
-use tables::{LineNumbers, Tables, TablesMut};
+use tables::{ClosingMut, LineNumbers, Settled};
 use types::{Acceleration, Fault, Refusal, VALUES};
 
 // Whether there are a 012 and a player (else 10).
@@ -39,6 +40,7 @@ pub fn values_of(counts: &Counts) -> [u32; VALUES]
 
 // The acceleration records that were read.
 fn records_of(counts: &Counts) -> &[Acceleration]
+    requires { counts.now.accelerations ≤ most_accelerations }
     ensures first { result.now ≡ take counts.now.accelerations counts.now.records }
     ensures within { counts.now.accelerations ≤ length counts.now.records }
 {
@@ -50,12 +52,15 @@ fn judge(
     counts: &Counts,
     past: Result<(), Refusal>,
     entries: &Entries<'_, '_>,
+    points: &[u32],
     lines: &LineNumbers<'_>,
 ) -> Result<(), Refusal>
     requires players { entries.now.players ≡ counts.now.players }
     requires rounds { entries.now.rounds ≤ most_rounds }
+    requires few { counts.now.accelerations ≤ most_accelerations }
     requires small { are_small (values_by counts.now.scoring) ≡ true }
-    ensures { (x y : Nine) → y.starts ≡ entries.now.tables.starts.now → y.points ≡ entries.now.tables.points.now → y.opponents ≡ entries.now.tables.opponents.now → y.colours ≡ entries.now.tables.colours.now → y.results ≡ entries.now.tables.results.now → y.lines ≡ lines.now.numbers.now → x.lines ≡ lines.now.numbers.now → refusal_in past ≡ past_in (as_count counts.now) entries.now.rounds x → refusal_in result ≡ verdict (as_count counts.now) entries.now.rounds x y }
+    requires long { most_players ≤ length points.now }
+    ensures { (x y : Nine) → y.starts ≡ entries.now.starts.now → y.points ≡ points.now → y.opponents ≡ entries.now.opponents.now → y.colours ≡ entries.now.colours.now → y.results ≡ entries.now.results.now → y.lines ≡ lines.now.numbers.now → x.lines ≡ lines.now.numbers.now → refusal_in past ≡ past_in (as_count counts.now) entries.now.rounds x → refusal_in result ≡ verdict (as_count counts.now) entries.now.rounds x y }
 {
     if !is_complete(counts) {
         return Err(Refusal::from(Fault::Incomplete));
@@ -64,7 +69,8 @@ fn judge(
     verdicts::sharing(records_of(counts), lines)?;
     verdicts::first_unlawful(entries, lines)?;
     verdicts::wrong_points(
-        &entries.tables,
+        points,
+        entries.results,
         values_of(counts),
         lines,
         entries.players,
@@ -73,49 +79,67 @@ fn judge(
 }
 
 // The number of rounds: what 142 says, or the highest round with an entry.
-fn rounds_of(counts: &Counts, tables: &Tables<'_>) -> u32
-    ensures { result ≡ rounds_found (as_count counts.now) tables.now.colours.now }
+fn rounds_of(counts: &Counts, colours: &[u8]) -> u32
+    requires players { counts.now.players ≤ most_players }
+    requires long { entry_cells ≤ length colours.now }
+    ensures { result ≡ rounds_found (as_count counts.now) colours.now }
 {
     match counts.rounds {
         Some(rounds) => rounds,
-        None => closings::rounds_seen(tables, counts.players),
+        None => closings::rounds_seen(colours, counts.players),
     }
 }
 
 // The closing pass on colours and results.
-fn close(tables: &mut TablesMut<'_>, n: usize, rounds: u32)
+fn close(closing: &mut ClosingMut<'_>, n: usize, rounds: u32)
     requires { n ≤ most_players }
-    ensures same { SameLent tables.old tables.new }
-    ensures closes { Closes n rounds (nine_of tables.old) (nine_of tables.new) }
+    ensures same { SameClosing closing.old closing.new }
+    ensures colours { ClosedBy dash n rounds closing.old.colours.now closing.new.colours.now }
+    ensures results { ClosedBy zed n rounds closing.old.results.now closing.new.results.now }
 {
-    closings::close(tables.colours, n, rounds, b'-');
-    closings::close(tables.results, n, rounds, BLANK_BYE);
+    closings::close(closing.colours, n, rounds, b'-');
+    closings::close(closing.results, n, rounds, BLANK_BYE);
 }
 
-// After the last line: the number of rounds, or the first refusal of the whole file; 11 before the closing pass, and the other checks after it.
+// The number of rounds, and whether the whole file is refused.
+#[derive(Drop)]
+pub struct Finished {
+    pub rounds: u32,
+    pub verdict: Result<(), Refusal>,
+}
+
+// After the last line: the number of rounds, and the first refusal of the whole file; 11 before the closing pass, and the other checks after it.
 pub fn finish(
     counts: &Counts,
     index: &[u8; START_CELLS],
-    tables: &mut TablesMut<'_>,
-) -> Result<u32, Refusal>
-    requires indexed { Indexed tables.old.starts.now counts.now.players index.now }
-    requires rounds { rounds_found (as_count counts.now) tables.old.colours.now ≤ most_rounds }
+    settled: &Settled<'_>,
+    closing: &mut ClosingMut<'_>,
+) -> Finished
+    requires indexed { Indexed settled.now.starts.now counts.now.players index.now }
+    requires room { Small counts.now }
+    requires rounds { rounds_found (as_count counts.now) closing.old.colours.now ≤ most_rounds }
     requires small { are_small (values_by counts.now.scoring) ≡ true }
-    ensures same { SameLent tables.old tables.new }
-    ensures closes { Closes counts.now.players (rounds_found (as_count counts.now) tables.old.colours.now) (nine_of tables.old) (nine_of tables.new) }
-    ensures verdict { refusal_in result ≡ verdict (as_count counts.now) (rounds_found (as_count counts.now) tables.old.colours.now) (nine_of tables.old) (nine_of tables.new) }
-    ensures rounds { IfOk result (λ rounds. rounds ≡ rounds_found (as_count counts.now) tables.old.colours.now) }
+    ensures same { SameClosing closing.old closing.new }
+    ensures rounds { result.rounds ≡ rounds_found (as_count counts.now) closing.old.colours.now }
+    ensures colours { ClosedBy dash counts.now.players result.rounds closing.old.colours.now closing.new.colours.now }
+    ensures results { ClosedBy zed counts.now.players result.rounds closing.old.results.now closing.new.results.now }
+    ensures verdict { (x y : Nine) → x.colours ≡ closing.old.colours.now → x.lines ≡ settled.now.lines.numbers.now → y.starts ≡ settled.now.starts.now → y.points ≡ settled.now.points.now → y.opponents ≡ settled.now.opponents.now → y.colours ≡ closing.new.colours.now → y.results ≡ closing.new.results.now → y.lines ≡ settled.now.lines.numbers.now → refusal_in result.verdict ≡ verdict (as_count counts.now) result.rounds x y }
 {
     let n = counts.players;
-    let rounds = rounds_of(counts, &tables.shared());
-    let past = verdicts::past(&tables.shared(), &tables.line_numbers(), n, rounds);
-    close(tables, n, rounds);
+    let before = closing.shared();
+    let rounds = rounds_of(counts, before.colours);
+    let past = verdicts::past(before.colours, &settled.lines, n, rounds);
+    close(closing, n, rounds);
+    let after = closing.shared();
     let entries = Entries {
-        tables: tables.shared(),
+        starts: settled.starts,
+        opponents: settled.opponents,
+        colours: after.colours,
+        results: after.results,
         index,
         players: n,
         rounds,
     };
-    judge(counts, past, &entries, &tables.line_numbers())?;
-    Ok(rounds)
+    let verdict = judge(counts, past, &entries, settled.points, &settled.lines);
+    Finished { rounds, verdict }
 }

@@ -4,6 +4,7 @@ use mathlib.Core.Bool.{Bool, true, false, ◌&&◌}
 use mathlib.Core.Option.{Option, none, some}
 use mathlib.Core.List.{List, [], ◌∷◌, ◌++◌}
 use Prim.Native.Nat.{ℕ, zero, suc, ◌+◌, ◌-◌, ◌≤◌, ◌<◌}
+use native.Mathlib.Nat.{add-zero}
 use native.Mathlib.Numerals.{add-one, unary_clauses}
 use native.Mathlib.Omega.{arith}
 use lib.ListN.{length, get_or, take, drop, replicate, drop_of_length-le, length-drop}
@@ -15,7 +16,7 @@ use Rattle.law.specs.Fields.{has_shape}
 use Rattle.law.specs.Players.{kept_field, kept_fields, in_line, sexes, titles, is_birth}
 use Rattle.law.proofs.FieldsRead as law
 use Rattle.law.proofs.RecordsRead.{is_kept}
-use Rattle.fields.proofs.Columns.{get_d_any, cells_one, cells_three, turn}
+use Rattle.fields.proofs.Columns.{get_d_any, cells-cons, cells_one, cells_three, turn}
 use Rattle.fields.proofs.Turns.{and-true}
 use Rattle.std.specs.Prelude.{Result, Ok, Err}
 use Rattle.std.specs.Result.{is_ok}
@@ -23,6 +24,14 @@ use Rattle.types.specs.declared.Fault.{Fault}
 use Rattle.fields.specs.Said.{said, or_bad_field}
 use Rattle.fields.proofs.Cases.{never}
 use Rattle.kept_columns.specs.Kept.{date_shape, fits_shape}
+
+-- ---- a column of some
+pub get_or_cells : (row : List ℕ) (i w j : ℕ) → j < w → get_or (cells row i w) j 0 ≡ get_or row (i + j) blank
+get_or_cells row i zero j h = absurd (omega arith)
+get_or_cells row i (suc w) zero h = ap (λ (l : List ℕ). get_or l 0 0) (cells-cons row i w) ∙ ap (λ (k : ℕ). get_or row k blank) (sym (add-zero i))
+get_or_cells row i (suc w) (suc j) h =
+    let e : suc i + j ≡ i + suc j = omega arith in
+    ap (λ (l : List ℕ). get_or l (suc j) 0) (cells-cons row i w) ∙ get_or_cells row (suc i) w j (omega arith) ∙ ap (λ (k : ℕ). get_or row k blank) e
 
 -- ---- w columns of a row: those that there are, then blanks
 or_blanks : (w : ℕ) (l : List ℕ) → take w l ++ replicate (w - length (take w l)) blank ≡ padded w l
@@ -72,10 +81,15 @@ gaps_by k l =
     rw (gap k 4 (omega arith), gap k 38 (omega arith), gap k 43 (omega arith), gap k 47 (omega arith), gap k 59 (omega arith), z, and-true (is_blank (get_or k 59 0))) refl
 
 -- ---- the tests together
-pub kept_by : (k : List ℕ) → length k ≡ 70
-    → is_kept k ≡ (((is_one_of (get_or k 0 0 ∷ []) sexes && is_one_of (get_or k 1 0 ∷ get_or k 2 0 ∷ get_or k 3 0 ∷ []) titles) && is_birth (cells k 60 10)) && else_blank kept_field.0 kept_fields (in_line k)) && is_some (law.number_or0 (law.number_of (cells k 39 4)))
+pub kept_by : (k : List ℕ) (s t b g : Bool) (r : Option ℕ) → is_one_of (cells k 0 1) sexes ≡ s → is_one_of (cells k 1 3) titles ≡ t → is_birth (cells k 60 10) ≡ b
+    → else_blank kept_field.0 kept_fields (in_line k) ≡ g → law.number_or0 (law.number_of (cells k 39 4)) ≡ r → is_kept k ≡ (((s && t) && b) && g) && is_some r
 unfolding cells
-kept_by k l = rw (sex-there k l, title-there k l) refl
+kept_by k s t b g r s-is t-is b-is g-is r-is = rw (s-is, t-is, b-is, g-is, r-is) refl
+
+-- .. where the sex and the title are read byte by byte
+pub kept-there : (k : List ℕ) → length k ≡ 70
+    → is_kept k ≡ (((is_one_of (get_or k 0 0 ∷ []) sexes && is_one_of (get_or k 1 0 ∷ get_or k 2 0 ∷ get_or k 3 0 ∷ []) titles) && is_birth (cells k 60 10)) && else_blank kept_field.0 kept_fields (in_line k)) && is_some (law.number_or0 (law.number_of (cells k 39 4)))
+kept-there k l = kept_by k _ _ _ _ _ (sex-there k l) (title-there k l) refl refl refl
 
 -- one test, of which v is then another
 pub and_then : (a b : Bool) {x v : Bool} → x ≡ a → x ≡ true → v ≡ b → v ≡ a && b

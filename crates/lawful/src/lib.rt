@@ -63,7 +63,7 @@ fn own_are(tables: &Tables<'_>, n: usize) -> bool
     held::starts_are(tables.starts, n)
         && held::points_are(tables.points, n)
         && held::ranks_are(tables.ranks, n)
-        && held::kept_are(tables, n)
+        && held::kept_are(tables.kept, n)
 }
 
 // Whether the cells after theirs hold zero.
@@ -136,7 +136,7 @@ fn sums_are(tables: &Tables<'_>, values: [u32; VALUES], n: usize, rounds: u32) -
     requires { (n ≤ most_players) × (rounds ≤ most_rounds) × (are_small values ≡ true) }
     ensures { Told (first_from (wrong_sum values tables.now.points.now tables.now.results.now rounds) 0 n ≡ none) result }
 {
-    closings::first_wrong_sum(tables, values, n, rounds).is_none()
+    closings::first_wrong_sum(tables.points, tables.results, values, n, rounds).is_none()
 }
 
 // Whether n players have start numbers that differ, lawful entries and the sums of what these earned.
@@ -148,11 +148,14 @@ fn together(tables: &Tables<'_>, values: [u32; VALUES], n: usize, rounds: u32) -
     ensures { Told (Together n rounds values tables.now) result }
 {
     let mut index = [0; START_CELLS];
-    if !held::starts_differ(tables, n, &mut index) {
+    if !held::starts_differ(tables.starts, n, &mut index) {
         return false;
     }
     let entries = Entries {
-        tables: *tables,
+        starts: tables.starts,
+        opponents: tables.opponents,
+        colours: tables.colours,
+        results: tables.results,
         index: &index,
         players: n,
         rounds,

@@ -2,7 +2,7 @@
 // works on an array by value. Promised: which cells are written and read.
 #![tactic(auto)]
 
-ghost use Rattle.std.specs.Prelude.{◌≡◌, ◌≤◌, ◌<◌, length, take, drop, ◌++◌, replicate};
+ghost use Rattle.std.specs.Prelude.{◌≡◌, cond, ◌≤◌, ◌<◌, ltb, length, take, drop, ◌++◌, replicate};
 ghost use Rattle.law.specs.Sizes.{most_accelerations};
 ghost use Rattle.law.specs.Lawful.{no_acceleration};
 
@@ -16,14 +16,35 @@ pub fn fill(records: &mut [Acceleration], all: [Acceleration; MOST_ACCELERATIONS
     records[..n].copy_from_slice(&all[..n]);
 }
 
+// The first n cells by value, before what follows the first n of blank.
+pub fn taken(
+    records: &[Acceleration],
+    blank: [Acceleration; MOST_ACCELERATIONS],
+    n: usize,
+) -> [Acceleration; MOST_ACCELERATIONS]
+    requires { (n ≤ length records.now) × (n ≤ most_accelerations) }
+    ensures { result ≡ take n records.now ++ drop n blank }
+{
+    let mut all = blank;
+    all[..n].copy_from_slice(&records[..n]);
+    all
+}
+
+// How many are taken where so many are lent: all that the box carries, or none where fewer are lent.
+fn starting(lent: usize) -> usize
+    ensures { result ≡ cond (ltb lent most_accelerations) 0 most_accelerations }
+{
+    if lent < MOST_ACCELERATIONS {
+        return 0;
+    }
+    MOST_ACCELERATIONS
+}
+
 // All that the box carries, by value; where fewer are lent, none is looked at, and all are blank.
-pub fn taken(records: &[Acceleration]) -> [Acceleration; MOST_ACCELERATIONS]
+pub fn carried(records: &[Acceleration]) -> [Acceleration; MOST_ACCELERATIONS]
     ensures enough { most_accelerations ≤ length records.now → result ≡ take most_accelerations records.now }
     ensures fewer { length records.now < most_accelerations → result ≡ replicate most_accelerations no_acceleration }
 {
-    let mut all = [NO_ACCELERATION; MOST_ACCELERATIONS];
-    if MOST_ACCELERATIONS <= records.len() {
-        all.copy_from_slice(&records[..MOST_ACCELERATIONS]);
-    }
-    all
+    let blank = [NO_ACCELERATION; MOST_ACCELERATIONS];
+    taken(records, blank, starting(records.len()))
 }

@@ -9,8 +9,7 @@ use lib.ListN.{length, get_or, replicate, length-map}
 use Rattle.kit.specs.Lists.{only_or, flat}
 use Rattle.kit.specs.First.{AllOf}
 use Rattle.kit.specs.Table.{Holds}
-use Rattle.types.specs.declared.Acceleration.{Acceleration}
-use Rattle.law.specs.Sizes.{most_file, most_rounds, most_accelerations}
+use Rattle.law.specs.Sizes.{most_file, most_rounds, most_accelerations, most_text}
 use Rattle.law.specs.Lines.{Line}
 use Rattle.law.specs.Items.{Item}
 use Rattle.law.specs.Accelerations.{acceleration_code}
@@ -18,7 +17,7 @@ use Rattle.law.specs.Players.{player_code}
 use Rattle.law.specs.Tournament.{Tournament, scoring_in, player_in, rounds_of, player_of, tournament_of}
 use Rattle.law.specs.Lawful.{no_acceleration}
 use Rattle.law.specs.Tables.{content_of, answer_of}
-use Rattle.law.specs.Refusals.{Refusal, refusal, lines_of, refused, accepted}
+use Rattle.law.specs.Refusals.{refusal, lines_of, refused, accepted}
 use Rattle.law.proofs.Cut.{cut}
 use Rattle.law.proofs.LinesLawful.{Small, scoring-small, scorings_fine, rounds-small}
 use Rattle.join.specs.Run.{Way, on, stop, run_all, first_all, Match}
@@ -32,17 +31,18 @@ use Rattle.join.proofs.Reading as reading
 use Rattle.index.specs.Index.{Indexed}
 use Rattle.index.proofs.Indexes.{index_zeros}
 use Rattle.closings.specs.Values.{are_small}
-use Rattle.types.specs.declared.Fault.{Fault}
 use Rattle.types.specs.declared.Refusal as types
 use Rattle.types.specs.Faults.{number_of}
 use Rattle.types.proofs.Numbers.{some_number}
-use Rattle.tables.specs.declared.lent.TablesMut.{TablesMut}
+use Rattle.tables.specs.declared.lent.SettledMut.{SettledMut}
+use Rattle.tables.specs.declared.lent.ClosingMut.{ClosingMut}
+use Rattle.tables.specs.declared.lent.ColumnsMut.{ColumnsMut}
 use Rattle.tables.specs.Lent.{nine_of}
 use Rattle.verdicts.specs.Verdict.{stated}
 use Rattle.steps.specs.declared.counts.Counts.{Counts}
 use Rattle.steps.specs.Counts.{as_count}
 use Rattle.lines_read.specs.declared.CoreAnswer.{CoreAnswer}
-use Rattle.lines_read.specs.Core.{no_records, refused_core, accepted_core, Within, WithinNine, LinesRead}
+use Rattle.lines_read.specs.Core.{refused_core, accepted_core, Within, WithinNine, LinesRead}
 
 -- by the answer's name
 pub read_as : {file : List ℕ} {b x : Nine} {r u : CoreAnswer} → r ≡ u → LinesRead file b u x → LinesRead file b r x
@@ -93,18 +93,18 @@ pub begun : (w : Way State (ℕ × ℕ)) (file : List ℕ) (x : Nine) (c : Count
 begun w file x c e did = did ∙ ap (λ (k : Count). run_all step_line (cut false file) 0 (state 0 k x)) e
 
 -- tables that a reading fills are long enough
-pub long_nine : (t : TablesMut) → Long (nine_of t)
-long_nine t =
+pub long_nine : (settled : SettledMut) (closing : ClosingMut) (columns : ColumnsMut) (text : List ℕ) → most_text ≤ length text → Long (nine_of settled closing columns text)
+long_nine settled closing columns text fits =
     record {
-      starts = t.starts_long;
-      points = t.points_long;
-      ranks = t.ranks_long;
-      kept = t.kept_long;
-      opponents = t.opponents_long;
-      colours = t.colours_long;
-      results = t.results_long;
-      text = t.text_long;
-      lines = t.lines_long;
+      starts = settled.starts_long;
+      points = settled.points_long;
+      ranks = columns.ranks_long;
+      kept = columns.kept_long;
+      opponents = settled.opponents_long;
+      colours = closing.colours_long;
+      results = closing.results_long;
+      text = fits;
+      lines = settled.lines_long;
     }
 
 -- ---- the run over the lines

@@ -23,8 +23,9 @@ use Rattle.lines_read.specs.declared.CoreAnswer.{CoreAnswer}
 use Rattle.reader.specs.Core.{lent_with, CoreReads}
 use Rattle.tables.specs.Lent.{eight_of}
 use Rattle.tables.specs.declared.lent.Tables as lent
+use Rattle.listing.specs.declared.lent.ListedTables.{ListedTables}
 use Rattle.listing.specs.Put.{Put}
-use Rattle.listing.specs.Lent.{six}
+use Rattle.listing.specs.Lent.{six, ShowsListed}
 use Rattle.listing.specs.Listing.{Six, listing}
 use Rattle.listing.specs.Outcomes.{Lists}
 use Rattle.listing.proofs.Told.{read_and-listed, refused-numbered}
@@ -88,14 +89,15 @@ six_in x =
       results = x.results;
     }
 
-pub core_listed : {file : List ℕ} {b : Nine} {n : ℕ} {r : CoreAnswer} {x : Nine} (l : lent.Tables) {t : List ℕ} {e : ℕ} {u : List ℕ} → Long b → most_accelerations ≤ n
-    → CoreReads file b n r x → eight_of l ≡ record x { lines = [] } → Put (listing r.answer (six l)) 0 t e u
+pub core_listed : {file : List ℕ} {b : Nine} {n : ℕ} {r : CoreAnswer} {x : Nine} (l : lent.Tables) (s : ListedTables) {t : List ℕ} {e : ℕ} {u : List ℕ} → Long b → most_accelerations ≤ n
+    → CoreReads file b n r x → eight_of l ≡ record x { lines = [] } → ShowsListed s l → Put (listing r.answer (six s)) 0 t e u
     → Lists file t e u × Numbered file r.answer.number
-core_listed {file} {b} {n} {r} {x} l {t} {e} {u} long few h q p =
+core_listed {file} {b} {n} {r} {x} l s {t} {e} {u} long few h q w p =
     let blank : List Acceleration = replicate n no_acceleration in
     let enough : enough_lent (lent_with b blank) ≡ true = enough-lent b blank long (let z = length-replicate n no_acceleration in omega arith) in
     let reads = h.reads blank (length-replicate n no_acceleration) in
-    (read_and-listed enough reads (subst (λ (s : Six). Put (listing r.answer s) 0 t e u) (ap six_in q) p), reads-numbered enough reads)
+    let shown : Put (listing r.answer (six_in (eight_of l))) 0 t e u = rw (w.starts, w.points, w.ranks, w.opponents, w.colours, w.results) at p in
+    (read_and-listed enough reads (subst (λ (y : Six). Put (listing r.answer y) 0 t e u) (ap six_in q) shown), reads-numbered enough reads)
 
 pub says-accepted : {file : List ℕ} {n : ℕ} → Numbered file n → n ≡ 0 → IsAccepted file
 says-accepted {file} h z = go h.outcome h.judged (sym h.says ∙ z)

@@ -8,7 +8,7 @@ ghost use Rattle.io.specs.Counts.{IsPrefixLen};
 ghost use Rattle.listing.specs.Outcomes.{Lists};
 ghost use Rattle.listed.specs.Printed.{Numbered, Says};
 
-use listing::{ANSWER_LINE, LISTING};
+use listing::{ANSWER_LINE, LISTING, ListedTables};
 pub use room::Room;
 use std::io;
 use std::io::{Cursor, Read, Write};
@@ -32,7 +32,8 @@ pub fn list_file(file: &[u8], out: &mut [u8; LISTING]) -> Made
 {
     let mut room = Room::new();
     let answer = room.read(file).answer;
-    let length = listing::put_listing(out, answer, &room.tables());
+    let tables = ListedTables::of(&room.tables());
+    let length = listing::put_listing(out, answer, &tables);
     Made { answer, length }
 }
 

@@ -2,13 +2,16 @@
 // the lent room stays. Nothing here reads or writes a file.
 #![tactic(auto)]
 
+mod lent;
+
 ghost use Rattle.std.specs.Prelude.{◌+◌, ◌*◌, ◌≤◌, ◌<◌, length};
 ghost use Rattle.law.specs.Sizes.{most_players, most_rounds};
 ghost use Rattle.law.specs.Writing.{filled, nothing};
 ghost use Rattle.listing.specs.Put.{Put};
-ghost use Rattle.listing.specs.Lent.{six};
+ghost use Rattle.listing.specs.Lent.{six, ShowsListed};
 ghost use Rattle.listing.specs.Listing.{decimal, field, entry_field, entry_fields, standing, player_line, player_lines, answer_line, listing, most_player_line, most_answer_line, most_listing, refused_listing};
 
+pub use lent::ListedTables;
 use tables::Tables;
 use types::{Answer, LF, Place, Rank, StartNumber};
 
@@ -23,6 +26,22 @@ pub const ANSWER_LINE: usize = 42;
 const PLAYER_LINE: usize = 293;
 
 const TAB: u8 = b'\t';
+
+impl<'t> ListedTables<'t> {
+    // Those of all that a call is lent.
+    pub fn of(tables: &Tables<'t>) -> ListedTables<'t>
+        ensures { ShowsListed result tables.now }
+    {
+        ListedTables {
+            starts: tables.starts,
+            points: tables.points,
+            ranks: tables.ranks,
+            opponents: tables.opponents,
+            colours: tables.colours,
+            results: tables.results,
+        }
+    }
+}
 
 // The digits of a number, the last `most` of them at most. By recursion, since the first is known last, and how many there are with it.
 fn put_digits(out: &mut [u8], at: usize, n: u32, most: usize) -> usize
@@ -70,7 +89,13 @@ fn put_entry(out: &mut [u8], at: usize, id: StartNumber, colour: u8, res: u8) ->
 }
 
 // A player's entries, round by round: the loop of `player_lines::put_entries`, but other bytes, and another contract.
-fn put_entries(out: &mut [u8], at: usize, tables: &Tables<'_>, place: Place, rounds: u32) -> usize
+fn put_entries(
+    out: &mut [u8],
+    at: usize,
+    tables: &ListedTables<'_>,
+    place: Place,
+    rounds: u32,
+) -> usize
     requires place { place.0 < most_players }
     requires rounds { rounds ≤ most_rounds }
     requires room { at + 13 * rounds ≤ length out.old }
@@ -80,9 +105,10 @@ fn put_entries(out: &mut [u8], at: usize, tables: &Tables<'_>, place: Place, rou
     let mut end = at;
     for done in 0..rounds {
         let round = done + 1;
-        let id = tables.opponent_at(place, round);
-        let colour = tables.colour_at(place, round);
-        end = put_entry(out, end, id, colour, tables.result_at(place, round));
+        let id = tables::opponent_at(tables.opponents, place, round);
+        let colour = tables::letter_at(tables.colours, place, round);
+        let res = tables::letter_at(tables.results, place, round);
+        end = put_entry(out, end, id, colour, res);
     }
     end
 }
@@ -99,22 +125,35 @@ fn put_standing(out: &mut [u8], at: usize, start: StartNumber, points: u32, rank
 }
 
 // A player's line.
-fn put_player(out: &mut [u8], at: usize, tables: &Tables<'_>, place: Place, rounds: u32) -> usize
+fn put_player(
+    out: &mut [u8],
+    at: usize,
+    tables: &ListedTables<'_>,
+    place: Place,
+    rounds: u32,
+) -> usize
     requires place { place.0 < most_players }
     requires rounds { rounds ≤ most_rounds }
     requires room { at + most_player_line ≤ length out.old }
     ensures put { Put (player_line (six tables.now) rounds place.0) at out.old result out.new }
     ensures within { result ≤ at + most_player_line }
 {
-    let start = tables.start_at(place);
-    let points = tables.points_at(place);
-    let of_standing = put_standing(out, at, start, points, tables.rank_at(place));
+    let start = tables::start_at(tables.starts, place);
+    let points = tables::points_at(tables.points, place);
+    let rank = tables::rank_at(tables.ranks, place);
+    let of_standing = put_standing(out, at, start, points, rank);
     let of_entries = put_entries(out, of_standing, tables, place, rounds);
     puts::put(out, of_entries, &[LF])
 }
 
 // The players' lines, in the order of the tables.
-fn put_players(out: &mut [u8], at: usize, tables: &Tables<'_>, players: u32, rounds: u32) -> usize
+fn put_players(
+    out: &mut [u8],
+    at: usize,
+    tables: &ListedTables<'_>,
+    players: u32,
+    rounds: u32,
+) -> usize
     requires players { players ≤ most_players }
     requires rounds { rounds ≤ most_rounds }
     requires room { at + most_player_line * players ≤ length out.old }
@@ -152,7 +191,7 @@ pub fn put_refused(out: &mut [u8], answer: Answer) -> usize
 }
 
 // The whole listing, from the first byte on. The tables are not looked at after a refusal.
-pub fn put_listing(out: &mut [u8], answer: Answer, tables: &Tables<'_>) -> usize
+pub fn put_listing(out: &mut [u8], answer: Answer, tables: &ListedTables<'_>) -> usize
     requires room { most_listing ≤ length out.old }
     requires players { answer.players ≤ most_players }
     requires rounds { answer.rounds ≤ most_rounds }

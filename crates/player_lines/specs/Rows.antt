@@ -5,7 +5,7 @@ use Rattle.law.specs.Columns.{width}
 use Rattle.law.specs.Players.{kept_field}
 use Rattle.law.specs.Tournament.{Entry, Player}
 use Rattle.law.specs.Tables.{Tables, cell_of}
-use Rattle.tables.specs.declared.lent.Tables.{Tables as Given}
+use Rattle.tables.specs.declared.lent.PlayerTables.{PlayerTables}
 use Rattle.player_lines.specs.Lines.{entry}
 
 pub record Seven : Type 0 where
@@ -24,7 +24,7 @@ seven starts points ranks kept opponents colours results = record { starts = sta
 abbrev pub seven_of : Tables → Seven
 seven_of t = seven t.starts t.points t.ranks t.kept t.opponents t.colours t.results
 
-abbrev pub seven_in : Given → Seven
+abbrev pub seven_in : PlayerTables → Seven
 seven_in t = seven t.starts.now t.points.now t.ranks.now t.kept.now t.opponents.now t.colours.now t.results.now
 
 -- a player's entry in round r, and those of the first rounds

@@ -15,7 +15,7 @@ ghost use Rattle.player_lines.specs.Lines.{head_text, head_wide, entry, entry_te
 ghost use Rattle.player_lines.specs.Rows.{seven_in, entries_in, player_in, players_in};
 
 use puts::{BETWEEN, START_COLUMNS, Terminator};
-use tables::Tables;
+use tables::PlayerTables;
 use types::{KEPT_COLUMNS, Place, Rank, StartNumber};
 
 // How many columns a rank has.
@@ -61,7 +61,13 @@ fn put_entry(out: &mut [u8], at: usize, id: StartNumber, colour: u8, res: u8) ->
 }
 
 // The first rounds of the player in a place; `rows::slots_of` reads them.
-fn put_entries(out: &mut [u8], at: usize, tables: &Tables<'_>, place: Place, rounds: u32) -> usize
+fn put_entries(
+    out: &mut [u8],
+    at: usize,
+    tables: &PlayerTables<'_>,
+    place: Place,
+    rounds: u32,
+) -> usize
     requires place { place.0 < most_players }
     requires rounds { rounds ≤ most_rounds }
     requires room { at + rounds * entry_wide ≤ length out.old }
@@ -70,9 +76,10 @@ fn put_entries(out: &mut [u8], at: usize, tables: &Tables<'_>, place: Place, rou
     let mut next = at;
     for done in 0..rounds {
         let round = done + 1;
-        let id = tables.opponent_at(place, round);
-        let colour = tables.colour_at(place, round);
-        next = put_entry(out, next, id, colour, tables.result_at(place, round));
+        let id = tables::opponent_at(tables.opponents, place, round);
+        let colour = tables::letter_at(tables.colours, place, round);
+        let res = tables::letter_at(tables.results, place, round);
+        next = put_entry(out, next, id, colour, res);
     }
     next
 }
@@ -101,22 +108,23 @@ fn put_head(
 }
 
 // The 001 line of the player in a place; `rows::player_of` reads it.
-fn put_player(out: &mut [u8], at: usize, tables: &Tables<'_>, place: Place, rounds: u32) -> usize
+fn put_player(
+    out: &mut [u8],
+    at: usize,
+    tables: &PlayerTables<'_>,
+    place: Place,
+    rounds: u32,
+) -> usize
     requires place { place.0 < most_players }
     requires rounds { rounds ≤ most_rounds }
     requires room { at + player_wide rounds ≤ length out.old }
     ensures { Puts (player_line (player_in (seven_in tables.now) rounds place.0)) (player_wide rounds) at out.old out.new result }
 {
-    let start = tables.start_at(place);
-    let kept = tables.kept_at(place);
-    let at = put_head(
-        out,
-        at,
-        start,
-        kept,
-        tables.points_at(place),
-        tables.rank_at(place),
-    );
+    let start = tables::start_at(tables.starts, place);
+    let kept = tables::kept_at(tables.kept, place);
+    let points = tables::points_at(tables.points, place);
+    let rank = tables::rank_at(tables.ranks, place);
+    let at = put_head(out, at, start, kept, points, rank);
     put_entries(out, at, tables, place, rounds)
 }
 
@@ -124,7 +132,7 @@ fn put_player(out: &mut [u8], at: usize, tables: &Tables<'_>, place: Place, roun
 pub fn put_players(
     out: &mut [u8],
     at: usize,
-    tables: &Tables<'_>,
+    tables: &PlayerTables<'_>,
     players: u32,
     rounds: u32,
     end: Terminator,

@@ -1,5 +1,5 @@
 -- The bytes of each terminator, and the kept text with its terminators. Assumes nothing.
-use mathlib.Core.Path.{◌≡◌, refl, sym, ap, ap₂, ◌∙◌}
+use mathlib.Core.Path.{◌≡◌, refl, sym, ap, ap₂, subst, ◌∙◌}
 use mathlib.Core.Bool.{true, not}
 use mathlib.Core.List.{List, [], ◌∷◌, ◌++◌, append_assoc, append-nil}
 use Prim.Native.Nat.{ℕ, ◌+◌, ◌≤◌, ◌<◌}
@@ -12,7 +12,7 @@ use borrow.Author.Tests.{not-true, eq-eqb, ne_eqb}
 use Rattle.kit.specs.Lists.{flat}
 use Rattle.kit.specs.First.{AllOf}
 use Rattle.kit.proofs.Bools.{and}
-use Rattle.law.specs.Lines.{CR, has_no_cr}
+use Rattle.law.specs.Lines.{CR, LF, has_no_cr}
 use Rattle.law.specs.Text.{ended}
 use Rattle.puts.specs.Puts.{Puts}
 use Rattle.puts.proofs.Puts.{puts_as, puts_none, puts_then}
@@ -60,6 +60,13 @@ relined-lines e [] h = relined-none e
 relined-lines e (l ∷ ls) h =
     relined-append e (ended l) (flat ended ls)
     ∙ ap₂ (λ (a b : List ℕ). a ++ b) (relined-append e l (CR ∷ []) ∙ ap₂ (λ (a b : List ℕ). a ++ b) (relined-line e l h.0) (relined-end e)) (relined-lines e ls h.1)
+
+-- ---- what is put for a terminator
+pub put_crlf : {e : Terminator} → e ≡ terminator.CrLf → {at r : ℕ} {x y : List ℕ} → Puts (CR ∷ LF ∷ []) 2 at x y r → Puts (end_text e) (end_wide e) at x y r
+put_crlf h {at} {r} {x} {y} p = subst (λ (e : Terminator). Puts (end_text e) (end_wide e) at x y r) (sym h) p
+
+pub put_cr : {e : Terminator} → e ≡ terminator.Cr → {at r : ℕ} {x y : List ℕ} → Puts (CR ∷ []) 1 at x y r → Puts (end_text e) (end_wide e) at x y r
+put_cr h {at} {r} {x} {y} p = subst (λ (e : Terminator). Puts (end_text e) (end_wide e) at x y r) (sym h) p
 
 -- ---- a byte of the kept text
 pub kept-cr : (e : Terminator) (c : ℕ) → c ≡ CR → end_text e ≡ kept_text e c

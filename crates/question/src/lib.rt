@@ -94,7 +94,7 @@ pub fn ask_core(
         results,
         text,
     };
-    let records = lent_records::taken(accelerations);
+    let records = lent_records::carried(accelerations);
     if !lawful::is_reading(answer, &tables, &records) {
         return refused(Fault::NoReading);
     }
@@ -107,7 +107,7 @@ pub fn ask_core(
         number: 0,
         line: LineNumber(0),
         round: 0,
-        points: closings::sum_of(&tables, answer.values, place, round - 1),
+        points: closings::sum_of(tables.results, answer.values, place, round - 1),
         acceleration: acceleration_for(records, start, round),
     }
 }

@@ -5,7 +5,7 @@ ghost use Rattle.tables.specs.Lent.{before, after};
 ghost use Rattle.reader.specs.Core.{CoreReads};
 
 use lines_read::CoreAnswer;
-use tables::TablesMut;
+use tables::{ClosingMut, ColumnsMut, SettledMut};
 use types::{Fault, MOST_ACCELERATIONS, MOST_FILE, Refusal};
 
 // A reading: the file, the nine lent tables of numbers, and how many acceleration records are lent.
@@ -37,27 +37,24 @@ pub fn read_core(
         accelerations,
     );
     if !(numbered & long) {
-        return lines_read::refused(Refusal::from(Fault::TableShort), 0);
+        return lines_read::refused_by(Refusal::from(Fault::TableShort), 0);
     }
-    let mut tables = TablesMut {
+    let mut settled = SettledMut {
         starts,
         points,
-        ranks,
-        kept,
         opponents,
-        colours,
-        results,
-        text,
         lines,
     };
-    tables.clear();
+    let mut closing = ClosingMut { colours, results };
+    let mut columns = ColumnsMut { ranks, kept };
+    tables::clear(&mut settled, &mut closing, &mut columns, text);
     if MOST_FILE < file.len() {
-        return lines_read::refused(Refusal::from(Fault::FileBig), MOST_ACCELERATIONS);
+        return lines_read::refused_by(Refusal::from(Fault::FileBig), MOST_ACCELERATIONS);
     }
-    let done = lines_read::read_lines(file, &mut tables);
+    let done = lines_read::read_lines(file, &mut settled, &mut closing, &mut columns, text);
     let is_refused = done.answer.number != 0;
     if is_refused {
-        tables.clear();
+        tables::clear(&mut settled, &mut closing, &mut columns, text);
     }
     done
 }

@@ -7,6 +7,7 @@ use Rattle.law.specs.Items as law
 use Rattle.law.specs.Refusals.{line_fault_number, not_listed}
 use Rattle.law.proofs.FieldsRead.{number_of, the_number}
 use Rattle.types.specs.declared.Fault.{Fault}
+use Rattle.types.specs.declared.StartNumber.{StartNumber}
 use Rattle.types.specs.Faults as fault
 use Rattle.fields.specs.Said.{Said, says, refuses}
 use Rattle.records.specs.declared.Kind.{Kind}
@@ -41,3 +42,8 @@ or_not_listed law.unlisted = refuses (line_fault_number not_listed)
 -- two number fields of one width with a column between them
 abbrev pub span_in : List ℕ → ℕ → ℕ → Option (ℕ × ℕ)
 span_in row i w = pair (the_number (number_of (cells row i w))) (the_number (number_of (cells row (i + w + 1) w)))
+
+-- what an answer says: first and last start number, or its fault's number
+abbrev pub start_span_says : Result (StartNumber × StartNumber) Fault → Said (ℕ × ℕ)
+start_span_says (Ok (first, last)) = says (first.0, last.0)
+start_span_says (Err e) = refuses (fault.number_of e)

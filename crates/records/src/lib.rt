@@ -12,9 +12,9 @@ ghost use Rattle.law.specs.Accelerations.{is_acceleration, acceleration_fields};
 ghost use Rattle.law.specs.Items.{kind_of, is_passed};
 ghost use Rattle.law.proofs.RecordsRead.{text_of, rounds_of_row, colour_of, acceleration_of};
 ghost use Rattle.fields.specs.Said.{said, or_bad_field};
-ghost use Rattle.records.specs.Records.{kind_says, or_not_listed, span_in};
+ghost use Rattle.records.specs.Records.{kind_says, or_not_listed, span_in, start_span_says};
 
-use types::{Acceleration, Fault, MOST_POINTS, MOST_START};
+use types::{Acceleration, Fault, MOST_POINTS, MOST_START, StartNumber};
 
 const MOST_ROUNDS: u32 = types::MOST_ROUNDS as u32;
 
@@ -195,10 +195,11 @@ fn round_span_at(line: &[u8]) -> Result<(u32, u32), Fault>
 }
 
 // First and last start number.
-fn start_span_at(line: &[u8]) -> Result<(u32, u32), Fault>
-    ensures { said result ≡ or_bad_field (span_in line.now 22 4) }
+fn start_span_at(line: &[u8]) -> Result<(StartNumber, StartNumber), Fault>
+    ensures { start_span_says result ≡ or_bad_field (span_in line.now 22 4) }
 {
-    span_at(line, 22, 4)
+    let (first, last) = span_at(line, 22, 4)?;
+    Ok((StartNumber(first), StartNumber(last)))
 }
 
 // A 250 line.
@@ -210,13 +211,13 @@ pub fn acceleration_of(line: &[u8]) -> Result<Acceleration, Fault>
     }
     let points = fields::points_at(line, 9)?;
     let (first_round, last_round) = round_span_at(line)?;
-    let (first_start, last_start) = start_span_at(line)?;
+    let (first, last) = start_span_at(line)?;
     let a = Acceleration {
         points,
         first_round,
         last_round,
-        first_start,
-        last_start,
+        first_start: first.0,
+        last_start: last.0,
     };
     if !is_acceleration(a) {
         return Err(Fault::BadField);

@@ -160,7 +160,7 @@ module _ (row : List ℕ) (r : ℕ) (h : 1 ≤ r) (long : 89 + 10 * r ≤ length
         id_other h = ap (λ (e : Entry). says (as_slot e)) (raw_game id (get_or row (81 + 10 * r + 5) 0) y (is_used row r) h (used_id id e)) ∙ sym (by_id (law.value id) e)
 
 -- ---- the columns between the rounds' fields
-two_columns : (row : List ℕ) (i : ℕ) → all is_blank (cells row i 2) ≡ all is_blank (cells row i 1) && all is_blank (cells row (i + 1) 1)
+pub two_columns : (row : List ℕ) (i : ℕ) → all is_blank (cells row i 2) ≡ all is_blank (cells row i 1) && all is_blank (cells row (i + 1) 1)
 two_columns row i =
     ap (all is_blank) (cells-cons row i 1) ∙ ap₂ (λ (x y : Bool). x && y) (sym (ap (all is_blank) (cells_one row i) ∙ and-true (is_blank (get_or row i blank)))) (ap (λ (j : ℕ). all is_blank (cells row j 1)) (sym (add-one i)))
 

@@ -33,7 +33,7 @@ use Rattle.types.specs.declared.Fault.{Fault}
 use Rattle.types.specs.Faults.{number_of}
 use Rattle.fields.specs.Said.{said, says, refuses, or_bad_field}
 use Rattle.fields.proofs.Keys.{one_of}
-use Rattle.fields.proofs.Cases.{never, none_said}
+use Rattle.fields.proofs.Cases.{never}
 
 -- ---- letters
 pub letter_is : (c : ℕ) → among c letters ≡ ltb (letter_place c) 6
@@ -74,6 +74,14 @@ module _ (given : List (ℕ × ℕ)) (p : ℕ) where
       (λ i. p ∷ own_draw given ∷ given_or defaults.loss (code "L") given ∷ given_or defaults.absent (code "A") given ∷ given_else (own_win given) p (code "P") given i ∷ given_or (own_draw given) (code "X") given ∷ [])
       (λ i. own_win given ∷ p ∷ given_or defaults.loss (code "L") given ∷ given_or defaults.absent (code "A") given ∷ given_or (own_win given) (code "P") given ∷ given_else (own_draw given) p (code "X") given i ∷ [])
       refl refl refl refl
+
+module _ (values : List ℕ) (seen : List Bool) (place points : ℕ) {f x : ℕ} (f-is : f ≡ follower_of place) (x-is : x ≡ cond (get_or seen f false) (get_or values f 0) points) where
+  with_value_lem : set (set values f x) place points ≡ with_value values seen place points
+  with_value_lem = ap (λ (y : ℕ). set (set values f y) place points) x-is ∙ ap (λ (g : ℕ). set (set values g (cond (get_or seen g false) (get_or values g 0) points)) place points) f-is
+
+  pub with_value-are : (given : List (ℕ × ℕ)) (letter : ℕ) → among letter letters ≡ true → place ≡ letter_place letter → values ≡ values_of given → seen ≡ seen_in given
+      → set (set values f x) place points ≡ values_of ((letter, points) ∷ given)
+  with_value-are given letter h p v s = with_value_lem ∙ (λ i. with_value (v i) (s i) (p i) points) ∙ values-set given points letter h
 
 -- the code writes at the follower's place only where none is given there
 abbrev pub followed : Given → ℕ → ℕ → Given

@@ -1,8 +1,9 @@
 -- The counts and what a step answers, as join says them.
-use Rattle.std.specs.Prelude.{Bool, List, [], ◌∷◌, ℕ, ◌+◌, Option, Some, None, Result, Ok, Err, is_some, unwrap_or}
+use Rattle.std.specs.Prelude.{List, [], ◌∷◌, ℕ, ◌+◌, ◌≤◌, Option, Some, None, Result, Ok, Err, is_some, unwrap_or}
 use Prim.Native.Char.{code}
 use Rattle.types.specs.declared.Fault.{Fault}
 use Rattle.types.specs.Faults.{number_of}
+use Rattle.law.specs.Sizes.{most_accelerations, most_text}
 use Rattle.law.specs.Text.{text_codes}
 use Rattle.law.specs.Scoring.{values, scoring_of}
 use Rattle.join.specs.Run.{Way, on, stop}
@@ -29,6 +30,11 @@ as_count c =
       scored = is_some c.scoring;
       values = values_by c.scoring;
     }
+
+-- no more than there is room for
+pub record Small (c : Counts) : Type 0 where
+  pub accelerations : c.accelerations ≤ most_accelerations
+  pub text : c.text ≤ most_text
 
 -- the step of a line after ln others, and what it leaves: the state after it, or a fault and the state as it was
 abbrev pub went : {A : Type 0} → ℕ → Result A Fault → Counts → Nine → Way State ℕ

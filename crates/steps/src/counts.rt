@@ -1,7 +1,4 @@
 // What is kept beside the tables while a file is read.
-ghost use Rattle.std.specs.Prelude.{◌≤◌};
-ghost use Rattle.law.specs.Sizes.{most_players, most_accelerations, most_text};
-
 use scorings::Scoring;
 use types::{Acceleration, MOST_ACCELERATIONS};
 
@@ -12,7 +9,7 @@ pub const REPEATED: usize = 9;
 
 // How many players, acceleration records and bytes of text there are, the records, which text codes stood, and what 142, 152 and 162 said. The colour is 0
 // where there is none, as in the answer that C is given; the records are as many as there can be, since there is no heap.
-#[derive(Drop)]
+#[derive(Clone, Copy)]
 pub struct Counts {
     pub players: usize,
     pub accelerations: usize,
@@ -22,7 +19,4 @@ pub struct Counts {
     pub rounds: Option<u32>,
     pub colour: u8,
     pub scoring: Option<Scoring>,
-    pub ghost players_few: { players ≤ most_players },
-    pub ghost accelerations_few: { accelerations ≤ most_accelerations },
-    pub ghost text_fits: { text ≤ most_text },
 }

@@ -5,14 +5,14 @@
 mod counts;
 
 ghost use Rattle.std.specs.Prelude.{◌≡◌, ℕ, ◌+◌, ◌≤◌, ◌<◌, length};
-ghost use Rattle.law.specs.Sizes.{most_line, most_text};
+ghost use Rattle.law.specs.Sizes.{most_line, most_accelerations, most_text};
 ghost use Rattle.law.specs.Columns.{part, code_field};
 ghost use Rattle.law.specs.Text.{text_codes};
 ghost use Rattle.law.specs.Items as items;
 ghost use Rattle.law.specs.Tables.{line_cells};
 ghost use Rattle.law.proofs.RecordsRead.{text_of, rounds_of_row, colour_of, given_of, acceleration_of};
 ghost use Rattle.join.specs.Store.{Nine, no_count, state, code_place, step_text, step_rounds, step_colour, step_scoring, step_acceleration};
-ghost use Rattle.steps.specs.Counts.{as_count, went, place_of_code, place_in0, place_in1, place_in2, with_text, with_lines};
+ghost use Rattle.steps.specs.Counts.{as_count, Small, went, place_of_code, place_in0, place_in1, place_in2, with_text, with_lines};
 
 pub use counts::{Counts, REPEATED, TEXT_CODES};
 use scorings::Scoring;
@@ -103,8 +103,10 @@ pub fn text_place(line: &[u8]) -> usize
 pub fn step_text(line: &[u8], counts: &mut Counts, text: &mut [u8]) -> Result<(), Fault>
     requires kept { items.kind_of line.now ≡ items.kept-text }
     requires short { length line.now ≤ most_line }
+    requires fits { counts.old.text ≤ most_text }
     requires long { most_text ≤ length text.old }
-    ensures { (ln : ℕ) (t : Nine) → went ln result counts.new (with_text t text.new) ≡ step_text (text_of line.now) (code_place (part code_field line.now) 0 text_codes) (state ln (as_count counts.old) (with_text t text.old)) }
+    ensures step { (ln : ℕ) (t : Nine) → went ln result counts.new (with_text t text.new) ≡ step_text (text_of line.now) (code_place (part code_field line.now) 0 text_codes) (state ln (as_count counts.old) (with_text t text.old)) }
+    ensures small { Small counts.old → Small counts.new }
 {
     let n = records::text_of(line)?;
     let place = text_place(line);
@@ -123,7 +125,8 @@ pub fn step_text(line: &[u8], counts: &mut Counts, text: &mut [u8]) -> Result<()
 
 // A 142 line.
 pub fn step_rounds(line: &[u8], counts: &mut Counts) -> Result<(), Fault>
-    ensures { (ln : ℕ) (t : Nine) → went ln result counts.new t ≡ step_rounds (rounds_of_row line.now) (state ln (as_count counts.old) t) }
+    ensures step { (ln : ℕ) (t : Nine) → went ln result counts.new t ≡ step_rounds (rounds_of_row line.now) (state ln (as_count counts.old) t) }
+    ensures small { Small counts.old → Small counts.new }
 {
     let rounds = records::rounds_of(line)?;
     if counts.rounds.is_some() {
@@ -135,7 +138,8 @@ pub fn step_rounds(line: &[u8], counts: &mut Counts) -> Result<(), Fault>
 
 // A 152 line.
 pub fn step_colour(line: &[u8], counts: &mut Counts) -> Result<(), Fault>
-    ensures { (ln : ℕ) (t : Nine) → went ln result counts.new t ≡ step_colour (colour_of line.now) (state ln (as_count counts.old) t) }
+    ensures step { (ln : ℕ) (t : Nine) → went ln result counts.new t ≡ step_colour (colour_of line.now) (state ln (as_count counts.old) t) }
+    ensures small { Small counts.old → Small counts.new }
 {
     let colour = records::colour_of(line)?;
     if counts.colour != 0 {
@@ -147,7 +151,8 @@ pub fn step_colour(line: &[u8], counts: &mut Counts) -> Result<(), Fault>
 
 // A 162 line. Of `step_rounds` it has another reader and another field; one function for both would be given each as a closure.
 pub fn step_scoring(line: &[u8], counts: &mut Counts) -> Result<(), Fault>
-    ensures { (ln : ℕ) (t : Nine) → went ln result counts.new t ≡ step_scoring (given_of line.now) (state ln (as_count counts.old) t) }
+    ensures step { (ln : ℕ) (t : Nine) → went ln result counts.new t ≡ step_scoring (given_of line.now) (state ln (as_count counts.old) t) }
+    ensures small { Small counts.old → Small counts.new }
 {
     let scoring = Scoring::from_line(line)?;
     if counts.scoring.is_some() {
@@ -164,8 +169,10 @@ pub fn step_acceleration(
     counts: &mut Counts,
     lines: &mut [u32],
 ) -> Result<(), Fault>
-    requires { line_cells ≤ length lines.old }
-    ensures { (ln : ℕ) (t : Nine) → number.0 ≡ ln + 1 → went ln result counts.new (with_lines t lines.new) ≡ step_acceleration (acceleration_of line.now) (state ln (as_count counts.old) (with_lines t lines.old)) }
+    requires few { counts.old.accelerations ≤ most_accelerations }
+    requires long { line_cells ≤ length lines.old }
+    ensures step { (ln : ℕ) (t : Nine) → number.0 ≡ ln + 1 → went ln result counts.new (with_lines t lines.new) ≡ step_acceleration (acceleration_of line.now) (state ln (as_count counts.old) (with_lines t lines.old)) }
+    ensures small { Small counts.old → Small counts.new }
 {
     let record = records::acceleration_of(line)?;
     let n = counts.accelerations;

@@ -1,12 +1,11 @@
 -- The loop that stores a row: how it begins, one turn, how it ends. Assumes nothing.
 use mathlib.Core.Path.{◌≡◌, refl, sym, ap, ap₂, ◌∙◌, subst}
 use mathlib.Core.List.{List, [], ◌∷◌, ◌++◌}
-use Prim.Native.Nat.{ℕ, ◌+◌, ◌≤◌, ◌<◌}
-use native.Mathlib.Nat.{le_antisymm}
+use Prim.Native.Nat.{ℕ, ◌+◌, ◌<◌}
 use native.Mathlib.Numerals.{add-one}
 use native.Mathlib.Omega.{arith}
 use lib.ListN.{length, get_or, set, take, drop, length-set, length-append}
-use lib.Seq.{paste, paste-suc, take-length, take_at, get_or_at, length-take-le}
+use lib.Seq.{paste, paste-suc, take-length, take_at, get_or_at}
 use Rattle.law.specs.Lines.{CR}
 use Rattle.law.specs.Text.{ended}
 use Rattle.join.specs.Grid.{put_row}

@@ -13,9 +13,11 @@ ghost use Rattle.law.specs.Players.{kept_field};
 ghost use Rattle.law.specs.Tables.{kept_cells, entry_cells, line_cells, cell_of, are_long};
 ghost use Rattle.join.specs.Grid.{put_row};
 ghost use Rattle.join.specs.Kept.{Zeroed};
-ghost use Rattle.tables.specs.Lent.{nine_of, SameLent, Shows};
+ghost use Rattle.tables.specs.Lent.{nine_of, SameSettled, SameClosing, SameColumns, ShowsSettled, ShowsClosing, ShowsPlayers};
 
-pub use lent::{LineNumbers, Tables, TablesMut};
+pub use lent::{
+    Closing, ClosingMut, ColumnsMut, LineNumbers, PlayerTables, Settled, SettledMut, Tables,
+};
 use types::{
     CR, ENTRIES, KEPT, KEPT_COLUMNS, LINES, LineNumber, MOST_ACCELERATIONS, MOST_PLAYERS,
     MOST_ROUNDS, MOST_TEXT, Place, Rank, StartNumber,
@@ -64,34 +66,101 @@ pub fn cell_of(place: Place, round: u32) -> usize
     place.0 as usize * MOST_ROUNDS + (round as usize - 1)
 }
 
-impl Tables<'_> {
+// What a player has, each of one lent table: start number, points, rank, kept columns.
+pub fn start_at(starts: &[u32], place: Place) -> StartNumber
+    requires { place.0 < length starts.now }
+    ensures { result.0 ≡ get_or starts.now place.0 0 }
+{
+    StartNumber(starts[place.0 as usize])
+}
+
+pub fn points_at(points: &[u32], place: Place) -> u32
+    requires { place.0 < length points.now }
+    ensures { result ≡ get_or points.now place.0 0 }
+{
+    points[place.0 as usize]
+}
+
+pub fn rank_at(ranks: &[u32], place: Place) -> Rank
+    requires { place.0 < length ranks.now }
+    ensures { result.0 ≡ get_or ranks.now place.0 0 }
+{
+    Rank(ranks[place.0 as usize])
+}
+
+pub fn kept_at(kept: &[u8], place: Place) -> [u8; KEPT_COLUMNS]
+    requires place { place.0 < most_players }
+    requires long { kept_cells ≤ length kept.now }
+    ensures { result ≡ take (width kept_field) (drop (place.0 * width kept_field) kept.now) }
+{
+    cells::get(kept, place.0 as usize * KEPT_COLUMNS)
+}
+
+// What a player has in a round, of one lent table: the colour or the result; and the opponent's start number, 0 if there is none.
+pub fn letter_at(letters: &[u8], place: Place, round: u32) -> u8
+    requires place { place.0 < most_players }
+    requires first { 1 ≤ round }
+    requires last { round ≤ most_rounds }
+    requires long { entry_cells ≤ length letters.now }
+    ensures { result ≡ get_or letters.now (cell_of place.0 round) 0 }
+{
+    letters[cell_of(place, round)]
+}
+
+pub fn opponent_at(opponents: &[u32], place: Place, round: u32) -> StartNumber
+    requires place { place.0 < most_players }
+    requires first { 1 ≤ round }
+    requires last { round ≤ most_rounds }
+    requires long { entry_cells ≤ length opponents.now }
+    ensures { result.0 ≡ get_or opponents.now (cell_of place.0 round) 0 }
+{
+    StartNumber(opponents[cell_of(place, round)])
+}
+
+impl<'t> Tables<'t> {
+    // Those that a 001 line fills.
+    pub fn of_players(&self) -> PlayerTables<'t>
+        ensures { ShowsPlayers result self.now }
+    {
+        let tables = self;
+        PlayerTables {
+            starts: tables.starts,
+            points: tables.points,
+            ranks: tables.ranks,
+            kept: tables.kept,
+            opponents: tables.opponents,
+            colours: tables.colours,
+            results: tables.results,
+        }
+    }
+
     // What a player has: start number, points, rank, kept columns.
     pub fn start_at(&self, place: Place) -> StartNumber
         requires { place.0 < most_players }
         ensures { result.0 ≡ get_or self.now.starts.now place.0 0 }
     {
-        StartNumber(self.starts[place.0 as usize])
+        start_at(self.starts, place)
     }
 
     pub fn points_at(&self, place: Place) -> u32
         requires { place.0 < most_players }
         ensures { result ≡ get_or self.now.points.now place.0 0 }
     {
-        self.points[place.0 as usize]
+        points_at(self.points, place)
     }
 
     pub fn rank_at(&self, place: Place) -> Rank
         requires { place.0 < most_players }
         ensures { result.0 ≡ get_or self.now.ranks.now place.0 0 }
     {
-        Rank(self.ranks[place.0 as usize])
+        rank_at(self.ranks, place)
     }
 
     pub fn kept_at(&self, place: Place) -> [u8; KEPT_COLUMNS]
         requires { place.0 < most_players }
         ensures { result ≡ take (width kept_field) (drop (place.0 * width kept_field) self.now.kept.now) }
     {
-        cells::get(self.kept, place.0 as usize * KEPT_COLUMNS)
+        kept_at(self.kept, place)
     }
 
     // What a player has in a round: the opponent's start number, 0 if there is none, the colour and the result.
@@ -101,7 +170,7 @@ impl Tables<'_> {
         requires last { round ≤ most_rounds }
         ensures { result.0 ≡ get_or self.now.opponents.now (cell_of place.0 round) 0 }
     {
-        StartNumber(self.opponents[cell_of(place, round)])
+        opponent_at(self.opponents, place, round)
     }
 
     pub fn colour_at(&self, place: Place, round: u32) -> u8
@@ -110,7 +179,7 @@ impl Tables<'_> {
         requires last { round ≤ most_rounds }
         ensures { result ≡ get_or self.now.colours.now (cell_of place.0 round) 0 }
     {
-        self.colours[cell_of(place, round)]
+        letter_at(self.colours, place, round)
     }
 
     pub fn result_at(&self, place: Place, round: u32) -> u8
@@ -119,7 +188,7 @@ impl Tables<'_> {
         requires last { round ≤ most_rounds }
         ensures { result ≡ get_or self.now.results.now (cell_of place.0 round) 0 }
     {
-        self.results[cell_of(place, round)]
+        letter_at(self.results, place, round)
     }
 }
 
@@ -140,47 +209,56 @@ impl LineNumbers<'_> {
     }
 }
 
-impl TablesMut<'_> {
+impl SettledMut<'_> {
     // The same tables, to be read.
-    pub fn shared(&self) -> Tables<'_>
-        ensures { Shows result self.now }
+    pub fn shared(&self) -> Settled<'_>
+        ensures { ShowsSettled result self.now }
     {
-        Tables {
+        Settled {
             starts: self.starts,
             points: self.points,
-            ranks: self.ranks,
-            kept: self.kept,
             opponents: self.opponents,
+            lines: LineNumbers {
+                numbers: self.lines,
+            },
+        }
+    }
+}
+
+impl ClosingMut<'_> {
+    // The same tables, to be read.
+    pub fn shared(&self) -> Closing<'_>
+        ensures { ShowsClosing result self.now }
+    {
+        Closing {
             colours: self.colours,
             results: self.results,
-            text: self.text,
         }
     }
+}
 
-    // The line numbers, to be read.
-    pub fn line_numbers(&self) -> LineNumbers<'_>
-        ensures { result.numbers.now ≡ self.now.lines.now }
-    {
-        LineNumbers {
-            numbers: self.lines,
-        }
-    }
-
-    // Zero in every listed cell.
-    pub fn clear(&mut self)
-        ensures same { SameLent self.old self.new }
-        ensures zeroed { Zeroed (nine_of self.old) (nine_of self.new) }
-    {
-        cells::fill(self.starts, MOST_PLAYERS, 0);
-        cells::fill(self.points, MOST_PLAYERS, 0);
-        cells::fill(self.ranks, MOST_PLAYERS, 0);
-        cells::fill(self.kept, KEPT, 0);
-        cells::fill(self.opponents, ENTRIES, 0);
-        cells::fill(self.colours, ENTRIES, 0);
-        cells::fill(self.results, ENTRIES, 0);
-        cells::fill(self.text, MOST_TEXT, 0);
-        cells::fill(self.lines, LINES, 0);
-    }
+// Zero in every listed cell of all that a reading fills: these tables and the text.
+pub fn clear(
+    settled: &mut SettledMut<'_>,
+    closing: &mut ClosingMut<'_>,
+    columns: &mut ColumnsMut<'_>,
+    text: &mut [u8],
+)
+    requires { most_text ≤ length text.old }
+    ensures same_settled { SameSettled settled.old settled.new }
+    ensures same_closing { SameClosing closing.old closing.new }
+    ensures same_columns { SameColumns columns.old columns.new }
+    ensures zeroed { Zeroed (nine_of settled.old closing.old columns.old text.old) (nine_of settled.new closing.new columns.new text.new) }
+{
+    cells::fill(settled.starts, MOST_PLAYERS, 0);
+    cells::fill(settled.points, MOST_PLAYERS, 0);
+    cells::fill(columns.ranks, MOST_PLAYERS, 0);
+    cells::fill(columns.kept, KEPT, 0);
+    cells::fill(settled.opponents, ENTRIES, 0);
+    cells::fill(closing.colours, ENTRIES, 0);
+    cells::fill(closing.results, ENTRIES, 0);
+    cells::fill(text, MOST_TEXT, 0);
+    cells::fill(settled.lines, LINES, 0);
 }
 
 // A number of a player, in a table that has one for each: start number, points, rank or line.

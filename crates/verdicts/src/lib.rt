@@ -18,7 +18,7 @@ ghost use Rattle.verdicts.specs.Verdict.{refusal_in, FoundUnder, unlawful_in};
 
 use checks::LawKind;
 use index::Entries;
-use tables::{LineNumbers, Tables};
+use tables::LineNumbers;
 use turns::Turn;
 use types::{Acceleration, Fault, Refusal, VALUES};
 
@@ -38,19 +38,15 @@ fn at_turn(fault: Fault, lines: &LineNumbers<'_>, found: Option<Turn>) -> Result
 }
 
 // 11: a cell past the rounds that there are.
-pub fn past(
-    tables: &Tables<'_>,
-    lines: &LineNumbers<'_>,
-    n: usize,
-    rounds: u32,
-) -> Result<(), Refusal>
-    requires { n ≤ most_players }
-    ensures { refusal_in result ≡ to (at_player (file_fault_number past_142) lines.now.numbers.now) (first_from (past_cell rounds tables.now.colours.now) 0 (n * most_rounds)) }
+pub fn past(colours: &[u8], lines: &LineNumbers<'_>, n: usize, rounds: u32) -> Result<(), Refusal>
+    requires players { n ≤ most_players }
+    requires long { entry_cells ≤ length colours.now }
+    ensures { refusal_in result ≡ to (at_player (file_fault_number past_142) lines.now.numbers.now) (first_from (past_cell rounds colours.now) 0 (n * most_rounds)) }
 {
-    if glances::none_past(tables, n, rounds) {
+    if glances::none_past(colours, n, rounds) {
         return Ok(());
     }
-    let found = closings::first_past(tables, n, rounds);
+    let found = closings::first_past(colours, n, rounds);
     at_turn(Fault::PastRounds, lines, found)
 }
 
@@ -71,7 +67,8 @@ pub fn sharing(records: &[Acceleration], lines: &LineNumbers<'_>) -> Result<(), 
 
 // 16: points that are not the sum, by the player's line.
 pub fn wrong_points(
-    tables: &Tables<'_>,
+    points: &[u32],
+    results: &[u8],
     values: [u32; VALUES],
     lines: &LineNumbers<'_>,
     n: usize,
@@ -79,10 +76,12 @@ pub fn wrong_points(
 ) -> Result<(), Refusal>
     requires players { n ≤ most_players }
     requires rounds { rounds ≤ most_rounds }
+    requires points_long { most_players ≤ length points.now }
+    requires results_long { entry_cells ≤ length results.now }
     requires small { are_small values ≡ true }
-    ensures { refusal_in result ≡ to (λ p. refusal (file_fault_number wrong_sum_lem) (get_or lines.now.numbers.now p 0) 0) (first_from (wrong_sum values tables.now.points.now tables.now.results.now rounds) 0 n) }
+    ensures { refusal_in result ≡ to (λ p. refusal (file_fault_number wrong_sum_lem) (get_or lines.now.numbers.now p 0) 0) (first_from (wrong_sum values points.now results.now rounds) 0 n) }
 {
-    let Some(place) = closings::first_wrong_sum(tables, values, n, rounds) else {
+    let Some(place) = closings::first_wrong_sum(points, results, values, n, rounds) else {
         return Ok(());
     };
     Err(Refusal {
@@ -102,7 +101,7 @@ fn broken(kind: LawKind, entries: &Entries<'_, '_>, lines: &LineNumbers<'_>) -> 
 
 // 12 to 15, in their order. Where one look finds every entry lawful there is nothing to search for.
 pub fn first_unlawful(entries: &Entries<'_, '_>, lines: &LineNumbers<'_>) -> Result<(), Refusal>
-    ensures { (y : Nine) → y.starts ≡ entries.now.tables.starts.now → y.opponents ≡ entries.now.tables.opponents.now → y.colours ≡ entries.now.tables.colours.now → y.results ≡ entries.now.tables.results.now → y.lines ≡ lines.now.numbers.now → refusal_in result ≡ unlawful_in entries.now.players entries.now.rounds y }
+    ensures { (y : Nine) → y.starts ≡ entries.now.starts.now → y.opponents ≡ entries.now.opponents.now → y.colours ≡ entries.now.colours.now → y.results ≡ entries.now.results.now → y.lines ≡ lines.now.numbers.now → refusal_in result ≡ unlawful_in entries.now.players entries.now.rounds y }
 {
     if glances::all_lawful(entries) {
         return Ok(());

@@ -162,7 +162,8 @@ fn put_report(
     let at = put_heads(out, at, answer.rounds, answer.colour, answer.values, end);
     let records = &records[..answer.accelerations as usize];
     let at = heads::put_accelerations(out, at, records, end);
-    player_lines::put_players(out, at, tables, answer.players, answer.rounds, end)
+    let rows = tables.of_players();
+    player_lines::put_players(out, at, &rows, answer.players, answer.rounds, end)
 }
 
 // The answer of a refusal; and of a writing.
@@ -228,7 +229,7 @@ pub fn write_core(
         results,
         text,
     };
-    let records = lent_records::taken(accelerations);
+    let records = lent_records::carried(accelerations);
     if !lawful::is_reading(answer, &tables, &records) {
         return refused(Fault::NoReading);
     }

@@ -7,4 +7,4 @@ use Rattle.checks.proofs.Flags.{Flags}
 use Rattle.checks.proofs.first_second_u.Given as goal
 
 abbrev pub invariant-loop-k : goal.invariant-loop-k
-invariant-loop-k l = Seeking (broken_cell one_U l.entries.players l.entries.rounds (four_of l.entries)) l.k-end l.k × Flags l.entries.tables.results.now l.k l.seen
+invariant-loop-k l = Seeking (broken_cell one_U l.entries.players l.entries.rounds (four_of l.entries)) l.k-end l.k × Flags l.entries.results.now l.k l.seen

@@ -1,5 +1,4 @@
 -- `closings::close_row` meets its contract. The loop's invariant: the cells of the first j rounds are closed. Assumes nothing.
-use Rattle.law.specs.Sizes.{most_rounds}
 use Rattle.closings.proofs.Closes.{Row}
 use Rattle.closings.proofs.close_row.Given as goal
 

@@ -4,4 +4,4 @@ use Rattle.turns.proofs.Seeks.{Seeking}
 use Rattle.closings.proofs.first_past.Given as goal
 
 abbrev pub invariant-loop-k : goal.invariant-loop-k
-invariant-loop-k l = Seeking (past_cell l.rounds l.tables.colours.now) l.k-end l.k
+invariant-loop-k l = Seeking (past_cell l.rounds l.colours) l.k-end l.k

@@ -4,4 +4,4 @@ use Rattle.turns.proofs.Seeks.{Climbing}
 use Rattle.closings.proofs.rounds_seen.Given as goal
 
 abbrev pub invariant-loop-k : goal.invariant-loop-k
-invariant-loop-k l = Climbing (round_seen l.tables.colours.now) l.k-end l.k l.most
+invariant-loop-k l = Climbing (round_seen l.colours) l.k-end l.k l.most

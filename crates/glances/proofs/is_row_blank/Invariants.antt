@@ -7,4 +7,4 @@ use Rattle.law.specs.Tables.{cell_of}
 use Rattle.glances.proofs.is_row_blank.Given as goal
 
 abbrev pub invariant-loop-j : goal.invariant-loop-j
-invariant-loop-j l = l.good ≡ true → (k : ℕ) → k < l.j → l.from ≤ k → get_or l.tables.colours.now (cell_of l.place.0 (k + 1)) 0 ≡ 0
+invariant-loop-j l = l.good ≡ true → (k : ℕ) → k < l.j → l.from ≤ k → get_or l.colours (cell_of l.place.0 (k + 1)) 0 ≡ 0

@@ -3,4 +3,4 @@ use Rattle.glances.proofs.Once.{Onced}
 use Rattle.glances.proofs.keeps_one_u.Given as goal
 
 abbrev pub invariant-loop-p : goal.invariant-loop-p
-invariant-loop-p l = Onced l.entries.tables.results.now l.p l.seen
+invariant-loop-p l = Onced l.entries.results.now l.p l.seen

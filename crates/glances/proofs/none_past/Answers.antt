@@ -6,4 +6,4 @@ use Rattle.glances.proofs.Ranges.{all_below}
 use Rattle.glances.proofs.none_past.Goals as goal
 
 pub returns : goal.returns
-returns c = λ e. none_past_lem _ _ _ (all_below _ _ _ _ (λ p. BlankRow c.args.tables.now.colours.now p c.args.rounds) c.all.ensures.ran (λ x q k. search rules) e)
+returns c = λ e. none_past_lem _ _ _ (all_below _ _ _ _ (λ p. BlankRow c.args.colours.now p c.args.rounds) c.all.ensures.ran (λ x q k. search rules) e)

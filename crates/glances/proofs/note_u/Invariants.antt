@@ -3,4 +3,4 @@ use Rattle.glances.proofs.Once.{Noting}
 use Rattle.glances.proofs.note_u.Given as goal
 
 abbrev pub invariant-loop-j : goal.invariant-loop-j
-invariant-loop-j l = Noting l.tables.results.now l.place.0 l.initial.seen l.seen l.j l.again
+invariant-loop-j l = Noting l.results l.place.0 l.initial.seen l.seen l.j l.again

@@ -12,5 +12,5 @@ returns c =
     let a = c.args.a in
     let starts : List ℕ = filled noughts 4 a.first_start ++ (blanks 1 ++ (filled noughts 4 a.last_start ++ [])) in
     puts_then c.put_code-at.ensures (puts_then c.put_blanks-at.ensures (puts_then c.put_points-at.ensures (puts_then c.put_blanks-at-2.ensures
-    (puts_as (span_before 3 a.first_round a.last_round (blanks 1 ++ starts)) refl refl (puts_then c.put_span-at.ensures
-    (puts_then c.put_blanks-at-3.ensures (puts_as (span_before 4 a.first_start a.last_start []) refl refl (puts_last c.put_span.ensures))))))))
+    (puts_as (span_before 3 a.first_round a.last_round (blanks 1 ++ starts)) refl refl (puts_then c.put_round_span-at.ensures
+    (puts_then c.put_blanks-at-3.ensures (puts_as (span_before 4 a.first_start a.last_start []) refl refl (puts_last c.put_start_span.ensures))))))))

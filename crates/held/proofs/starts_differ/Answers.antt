@@ -14,8 +14,7 @@ index_start-requires c = (start-low c.loop-p.invariant c.loop-p-test.true c.star
 
 pub loop-p-preserved : goal.loop-p-preserved
 loop-p-preserved c =
-    let long = c.args.tables.now.starts_long in
-    differ_next c.loop-p.invariant c.loop-p-test.true c.start_at-start.ensures c.place_of.ensures (omega (arith, long, c.loop-p-test.true, c.requires.players)) (sym c.is_some.ensures ∙ c.if-is_some.false) c.index_start.ensures
+    differ_next c.loop-p.invariant c.loop-p-test.true c.start_at-start.ensures c.place_of.ensures (omega (arith, c.requires.long, c.loop-p-test.true)) (sym c.is_some.ensures ∙ c.if-is_some.false) c.index_start.ensures
 
 pub returns : goal.returns
 returns c = let k = differ_all c.loop-p.invariant c.loop-p-test.false in record { told = k.0; theirs = λ _. k.1 }

@@ -3,4 +3,4 @@ use Rattle.held.proofs.Differ.{Differing}
 use Rattle.held.proofs.starts_differ.Given as goal
 
 abbrev pub invariant-loop-p : goal.invariant-loop-p
-invariant-loop-p l = Differing l.tables.starts.now l.n l.index l.p
+invariant-loop-p l = Differing l.starts l.n l.index l.p

@@ -1,13 +1,10 @@
 -- `judges::judge` meets its contract. Assumes nothing.
-use mathlib.Core.Path.{refl, sym, ap, ◌∙◌}
+use mathlib.Core.Path.{sym, ap, ◌∙◌}
 use mathlib.Core.Option.{some}
-use Prim.Native.Nat.{ℕ, ◌≤◌}
-use native.Mathlib.Omega.{arith}
+use Prim.Native.Nat.{ℕ}
 use mathlib.Core.List.{List}
 use lib.ListN.{length}
-use borrow.Author.Rules.{rules}
 use Rattle.kit.specs.Decides.{to}
-use Rattle.law.specs.Sizes.{most_accelerations}
 use Rattle.types.specs.declared.Acceleration.{Acceleration}
 use Rattle.join.specs.Grid.{first_from}
 use Rattle.join.specs.Check.{shared_record}

@@ -1,5 +1,4 @@
 -- `judges::values_of` meets its contract: where no line gives values, they are the defaults. Assumes nothing.
-use Rattle.law.specs.Scoring.{scoring_of}
 use Rattle.judges.proofs.Judging.{defaults}
 use Rattle.judges.proofs.values_of.Goals as goal
 

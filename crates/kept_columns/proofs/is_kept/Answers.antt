@@ -9,7 +9,7 @@ use Rattle.kit.specs.Decides.{is_some}
 use Rattle.law.specs.Columns.{cells, else_blank}
 use Rattle.law.specs.Players.{kept_field, kept_fields, in_line, sexes, titles, is_birth}
 use Rattle.law.proofs.FieldsRead.{number_or0, number_of}
-use Rattle.kept_columns.proofs.KeptColumns.{kept_by, and_then, and_not, ok_is_some}
+use Rattle.kept_columns.proofs.KeptColumns.{kept-there, and_then, and_not, ok_is_some}
 use Rattle.kept_columns.proofs.is_kept.Goals as goal
 use Rattle.kept_columns.proofs.is_kept.Goals.{then-is_sex, else-is_sex, then-is_title, else-is_title, then-is_birth, else-is_birth}
 
@@ -36,7 +36,7 @@ returns-then-kept_gaps_blank c =
       | then-is_birth w ↦ and_then ((s && t) && b) g three w.if-is_birth.true (w.value-is ∙ w.kept_gaps_blank.ensures)
       | else-is_birth w ↦ and_not ((s && t) && b) g three w.if-is_birth.false w.value-is
     ] in
-    and_then (((s && t) && b) && g) (is_some (number_or0 (number_of (cells k 39 4)))) four c.if-kept_gaps_blank.true (c.is_ok.ensures.value ∙ ok_is_some _ _ c.number_or_blank.ensures) ∙ sym (kept_by k long)
+    and_then (((s && t) && b) && g) (is_some (number_or0 (number_of (cells k 39 4)))) four c.if-kept_gaps_blank.true (c.is_ok.ensures.value ∙ ok_is_some _ _ c.number_or_blank.ensures) ∙ sym (kept-there k long)
 
 pub returns-else-kept_gaps_blank : goal.returns-else-kept_gaps_blank
 returns-else-kept_gaps_blank c =
@@ -61,4 +61,4 @@ returns-else-kept_gaps_blank c =
       | then-is_birth w ↦ and_then ((s && t) && b) g three w.if-is_birth.true (w.value-is ∙ w.kept_gaps_blank.ensures)
       | else-is_birth w ↦ and_not ((s && t) && b) g three w.if-is_birth.false w.value-is
     ] in
-    and_not (((s && t) && b) && g) (is_some (number_or0 (number_of (cells k 39 4)))) four c.if-kept_gaps_blank.false refl ∙ sym (kept_by k long)
+    and_not (((s && t) && b) && g) (is_some (number_or0 (number_of (cells k 39 4)))) four c.if-kept_gaps_blank.false refl ∙ sym (kept-there k long)

@@ -5,4 +5,4 @@ use Rattle.lines_read.proofs.refused.Goals as goal
 
 pub returns : goal.returns
 unfolding refused_answer
-returns c = rw c.number.ensures refl
+returns c = refl

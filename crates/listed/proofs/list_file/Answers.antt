@@ -10,7 +10,7 @@ pub put_listing-length-requires-clause-rounds : goal.put_listing-length-requires
 put_listing-length-requires-clause-rounds c = (core_small c.read.ensures).1
 
 pub returns-clause-lists : goal.returns-clause-lists
-returns-clause-lists c = (core_listed c.tables.result c.new-room.ensures (omega arith) c.read.ensures c.tables.ensures c.put_listing-length.ensures.put).0
+returns-clause-lists c = (core_listed c.tables.result c.of-tables.result c.new-room.ensures (omega arith) c.read.ensures c.tables.ensures c.of-tables.ensures c.put_listing-length.ensures.put).0
 
 pub returns-clause-numbered : goal.returns-clause-numbered
-returns-clause-numbered c = (core_listed c.tables.result c.new-room.ensures (omega arith) c.read.ensures c.tables.ensures c.put_listing-length.ensures.put).1
+returns-clause-numbered c = (core_listed c.tables.result c.of-tables.result c.new-room.ensures (omega arith) c.read.ensures c.tables.ensures c.of-tables.ensures c.put_listing-length.ensures.put).1

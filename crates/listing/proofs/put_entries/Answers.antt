@@ -10,6 +10,6 @@ pub loop-done-preserved : goal.loop-done-preserved
 loop-done-preserved c =
     let t = c.args.tables.now in (
       fields_next t.opponents.now t.colours.now t.results.now c.args.place.0 _ c.loop-done.invariant.0
-          (rw (sym c.opponent_at-id.ensures, sym c.colour_at-colour.ensures, sym c.result_at.ensures) c.put_entry-end.ensures.put),
+          (rw (sym c.opponent_at-id.ensures, sym c.letter_at-colour.ensures, sym c.letter_at-res.ensures) c.put_entry-end.ensures.put),
       omega arith,
     )

@@ -5,5 +5,5 @@ use Rattle.listing.proofs.put_player.Goals as goal
 
 pub returns-clause-put : goal.returns-clause-put
 returns-clause-put c =
-    player-line (six c.args.tables.now) c.args.rounds c.args.place.0 c.start_at-start.ensures c.points_at-points.ensures c.rank_at.ensures c.put_standing-of_standing.ensures.put
+    player-line (six c.args.tables.now) c.args.rounds c.args.place.0 c.start_at-start.ensures c.points_at-points.ensures c.rank_at-rank.ensures c.put_standing-of_standing.ensures.put
     c.put_entries-of_entries.ensures.put c.put.ensures

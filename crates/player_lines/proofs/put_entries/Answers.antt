@@ -13,7 +13,7 @@ pub loop-done-preserved : goal.loop-done-preserved
 loop-done-preserved c =
     let a = c.args in
     round-next a.tables.now.opponents.now a.tables.now.colours.now a.tables.now.results.now a.place.0 a.rounds c.loop-done.invariant c.loop-done-test.true refl
-    (rw (sym c.opponent_at-id.ensures, sym c.colour_at-colour.ensures, sym c.result_at.ensures) c.put_entry-next.ensures)
+    (rw (sym c.opponent_at-id.ensures, sym c.letter_at-colour.ensures, sym c.letter_at-res.ensures) c.put_entry-next.ensures)
 
 pub shape_of-out : goal.shape_of-out
 shape_of-out c = c.loop-done.invariant.put.long

@@ -16,7 +16,7 @@ put_entries-requires c =
 pub returns : goal.returns
 returns c =
     let a = c.args in
-    player_put (seven_in a.tables.now) a.rounds a.place.0 c.start_at-start.ensures c.points_at.ensures c.rank_at.ensures c.kept_at-kept.ensures c.put_head-at.ensures c.put_entries.ensures
+    player_put (seven_in a.tables.now) a.rounds a.place.0 c.start_at-start.ensures c.points_at-points.ensures c.rank_at-rank.ensures c.kept_at-kept.ensures c.put_head-at.ensures c.put_entries.ensures
 
 pub shape_of-out : goal.shape_of-out
 shape_of-out c = (returns c).long

@@ -15,13 +15,13 @@ pub returns-then-not-is_reading : goal.returns-then-not-is_reading
 returns-then-not-is_reading c =
     let a = c.args in
     let t = tables_of a.starts.now a.points.now a.ranks.now a.kept.now a.opponents.now a.colours.now a.results.now a.text.now a.accelerations.now in
-    core_unread a.answer t c.taken-records.ensures.enough a.place a.round (sym c.enough.ensures ∙ c.if-not-enough.false) c.is_reading.ensures c.if-not-is_reading.true c.refused-then-not-is_reading.ensures
+    core_unread a.answer t c.carried-records.ensures.enough a.place a.round (sym c.enough.ensures ∙ c.if-not-enough.false) c.is_reading.ensures c.if-not-is_reading.true c.refused-then-not-is_reading.ensures
 
 pub returns-then-not-is_inside : goal.returns-then-not-is_inside
 returns-then-not-is_inside c =
     let a = c.args in
     let t = tables_of a.starts.now a.points.now a.ranks.now a.kept.now a.opponents.now a.colours.now a.results.now a.text.now a.accelerations.now in
-    core_outside a.answer t c.taken-records.ensures.enough a.place a.round (sym c.enough.ensures ∙ c.if-not-enough.false) c.is_reading.ensures c.if-not-is_reading.false (sym c.is_inside.ensures ∙ c.if-not-is_inside.true)
+    core_outside a.answer t c.carried-records.ensures.enough a.place a.round (sym c.enough.ensures ∙ c.if-not-enough.false) c.is_reading.ensures c.if-not-is_reading.false (sym c.is_inside.ensures ∙ c.if-not-is_inside.true)
     c.refused-then-not-is_inside.ensures
 
 pub returns : goal.returns
@@ -29,5 +29,5 @@ unfolding score_answer
 returns c =
     let a = c.args in
     let t = tables_of a.starts.now a.points.now a.ranks.now a.kept.now a.opponents.now a.colours.now a.results.now a.text.now a.accelerations.now in
-    core_inside a.answer t c.taken-records.ensures.enough a.place a.round (sym c.enough.ensures ∙ c.if-not-enough.false) c.is_reading.ensures c.if-not-is_reading.false (sym c.is_inside.ensures ∙ c.if-not-is_inside.false) c.sum_of.ensures
+    core_inside a.answer t c.carried-records.ensures.enough a.place a.round (sym c.enough.ensures ∙ c.if-not-enough.false) c.is_reading.ensures c.if-not-is_reading.false (sym c.is_inside.ensures ∙ c.if-not-is_inside.false) c.sum_of.ensures
     c.start_at-start.ensures c.acceleration_for.ensures

@@ -30,7 +30,7 @@ step-requires-clause-clean c = (told_line _ _ c.in-Ok-Some.ensures (ap Ok c.in-O
 pub returns-in-Err-step-clause-run : goal.returns-in-Err-step-clause-run
 returns-in-Err-step-clause-run c =
     let m = told_line _ _ c.in-Ok-Some.ensures (ap Ok c.in-Ok-Some.field-0-is) in
-    rw c.refused_at-in-Err-step.ensures (going_stop c.loop-line.invariant.going m (search rules) c.step.result c.step.new.counts (nine_of c.step.new.tables) c.step.ensures.step c.in-Err-step.is)
+    rw c.refused_at-in-Err-step.ensures (going_stop c.loop-line.invariant.going m (search rules) c.step.result c.step.new.counts (nine_of c.step.new.settled c.step.new.closing c.step.new.columns c.step.new.text) c.step.ensures.step c.in-Err-step.is)
 
 pub loop-line-smaller : goal.loop-line-smaller
 loop-line-smaller c =
@@ -44,6 +44,10 @@ pub loop-line-preserved : goal.loop-line-preserved
 loop-line-preserved c =
     let m = told_line _ _ c.in-Ok-Some.ensures (ap Ok c.in-Ok-Some.field-0-is) in
     record {
-      same = search rules;
-      going = going_next c.loop-line.invariant.going m (search rules) c.step.result c.step.new.counts (nine_of c.step.new.tables) c.step.ensures.step c.in_default.is c.step.ensures.indexed;
+      same_settled = search rules;
+      same_closing = search rules;
+      same_columns = search rules;
+      long = search rules;
+      room = c.step.ensures.small;
+      going = going_next c.loop-line.invariant.going m (search rules) c.step.result c.step.new.counts (nine_of c.step.new.settled c.step.new.closing c.step.new.columns c.step.new.text) c.step.ensures.step c.in_default.is c.step.ensures.indexed;
     }

@@ -2,10 +2,9 @@ use native.Mathlib.Omega.{arith}
 use mathlib.Core.Path.{◌≡◌, sym, ap, ◌∙◌}
 use Prim.Native.Nat.{ℕ, ◌+◌, ◌*◌, ◌-◌}
 use lib.ListN.{drop}
-use mathlib.Core.List.{List, ◌∷◌}
+use mathlib.Core.List.{◌∷◌}
 use Rattle.kit.specs.Decides.{to}
 use Rattle.law.specs.Columns.{cells}
-use Rattle.fields.specs.Said.{says}
 use Rattle.fields.proofs.Cases.{handed_on}
 use Rattle.scorings.specs.Scoring.{differing, slots_in, if_filled, slots_give}
 use Rattle.scorings.proofs.ScoringSlots.{slots_turn, none_at}

@@ -1,11 +1,8 @@
-use mathlib.Core.Path.{◌≡◌, sym, subst}
-use mathlib.Core.List.{List}
-use Prim.Native.Nat.{◌<◌, ◌+◌}
+use Prim.Native.Nat.{◌<◌}
 use borrow.Author.Rules.{rules}
-use lib.ListN.{length, set, get_or}
+use lib.ListN.{length}
 use Rattle.std.proofs.lemmas.List.{get_or_default}
-use Rattle.law.specs.Tables.{cell_of}
-use Rattle.tables.proofs.Rows.{Stored, stored_none, stored_next}
+use Rattle.tables.proofs.Rows.{stored_none, stored_next}
 use Rattle.tables.proofs.store_row.Goals as goal
 
 pub loop-j-init : goal.loop-j-init

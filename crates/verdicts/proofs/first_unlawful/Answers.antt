@@ -1,6 +1,5 @@
 -- `verdicts::first_unlawful` meets its contract. Assumes nothing.
 use mathlib.Core.Path.{◌∙◌}
-use Rattle.kit.specs.Decides.{or_else}
 use Rattle.law.specs.Entries.{bye-or-game, mutual_pairing, fitting_results, one_U}
 use Rattle.join.specs.Check.{broken_by}
 use Rattle.verdicts.proofs.Parts.{handed, or-first, or-next, broken_in, none_in}

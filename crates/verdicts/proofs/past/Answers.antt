@@ -15,8 +15,8 @@ returns-then-none_past c = nothing_found (at_player (file_fault_number past_142)
 pub at_turn-requires : goal.at_turn-requires
 at_turn-requires c =
     let a = c.args in
-    let f = past_cell a.rounds a.tables.now.colours.now in
-    λ turn e. omega (arith, c.requires, told_under f (a.n * most_rounds) (told_turn (first_from f 0 (a.n * most_rounds)) c.first_past-found.ensures e))
+    let f = past_cell a.rounds a.colours.now in
+    λ turn e. omega (arith, c.requires.players, told_under f (a.n * most_rounds) (told_turn (first_from f 0 (a.n * most_rounds)) c.first_past-found.ensures e))
 
 pub returns : goal.returns
 returns c = c.at_turn.ensures _ c.first_past-found.ensures

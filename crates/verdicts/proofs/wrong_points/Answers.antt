@@ -18,7 +18,7 @@ returns-in_default c =
 pub of_player-requires : goal.of_player-requires
 of_player-requires c =
     let a = c.args in
-    let f = wrong_sum a.values a.tables.now.points.now a.tables.now.results.now a.rounds in
+    let f = wrong_sum a.values a.points.now a.results.now a.rounds in
     omega (arith, c.requires.players, told_under f a.n (told-place (first_from f 0 a.n) c.first_wrong_sum.ensures c.in-Some.is))
 
 pub returns : goal.returns

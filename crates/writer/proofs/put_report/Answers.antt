@@ -42,7 +42,9 @@ unfolding report_text
 returns c =
     let a = c.args.answer in
     let room : a.accelerations ≤ length c.args.records.now = search rules in
-    puts_then c.put_text-at.ensures (puts_then c.put_heads-at.ensures (puts_then (rw (length-take-le a.accelerations c.args.records.now room) at c.put_accelerations-at.ensures) c.put_players.ensures))
+    let shown = c.of_players-rows.ensures in
+    puts_then c.put_text-at.ensures (puts_then c.put_heads-at.ensures (puts_then (rw (length-take-le a.accelerations c.args.records.now room) at c.put_accelerations-at.ensures)
+    (rw (shown.starts, shown.points, shown.ranks, shown.kept, shown.opponents, shown.colours, shown.results) at c.put_players.ensures)))
 
 pub shape_of-out : goal.shape_of-out
 shape_of-out c = (returns c).long

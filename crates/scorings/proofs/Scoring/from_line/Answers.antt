@@ -1,6 +1,6 @@
 -- `scorings::Scoring::from_line` meets its contract. Assumes nothing.
-use mathlib.Core.Path.{◌≡◌, refl, sym, ap, ◌∙◌}
-use mathlib.Core.Option.{Option, none}
+use mathlib.Core.Path.{◌≡◌, sym, ap, ◌∙◌}
+use mathlib.Core.Option.{none}
 use native.Mathlib.Omega.{arith}
 use Rattle.std.specs.Prelude.{Option as Maybe, Some, None}
 use Rattle.kit.specs.Decides.{to}
@@ -10,7 +10,6 @@ use Rattle.types.specs.declared.Fault.TheVariants.{BadField}
 use Rattle.types.specs.Faults.{number_of}
 use Rattle.fields.specs.Said.{says, refuses, or_bad_field}
 use Rattle.scorings.specs.declared.Given.{Given}
-use Rattle.scorings.specs.declared.Scoring.{Scoring}
 use Rattle.fields.proofs.Cases.{handed_on}
 use Rattle.scorings.specs.Scoring.{differing, slots_in, if_filled, scored}
 use Rattle.scorings.proofs.ScoringSlots.{none_given, none_filled, some_filled}
