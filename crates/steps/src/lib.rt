@@ -107,6 +107,7 @@ pub fn step_text(line: &[u8], counts: &mut Counts, text: &mut [u8]) -> Result<()
     requires long { most_text ≤ length text.old }
     ensures step { (ln : ℕ) (t : Nine) → went ln result counts.new (with_text t text.new) ≡ step_text (text_of line.now) (code_place (part code_field line.now) 0 text_codes) (state ln (as_count counts.old) (with_text t text.old)) }
     ensures small { Small counts.old → Small counts.new }
+    ensures players { counts.new.players ≡ counts.old.players }
 {
     let n = records::text_of(line)?;
     let place = text_place(line);
@@ -127,6 +128,7 @@ pub fn step_text(line: &[u8], counts: &mut Counts, text: &mut [u8]) -> Result<()
 pub fn step_rounds(line: &[u8], counts: &mut Counts) -> Result<(), Fault>
     ensures step { (ln : ℕ) (t : Nine) → went ln result counts.new t ≡ step_rounds (rounds_of_row line.now) (state ln (as_count counts.old) t) }
     ensures small { Small counts.old → Small counts.new }
+    ensures players { counts.new.players ≡ counts.old.players }
 {
     let rounds = records::rounds_of(line)?;
     if counts.rounds.is_some() {
@@ -140,6 +142,7 @@ pub fn step_rounds(line: &[u8], counts: &mut Counts) -> Result<(), Fault>
 pub fn step_colour(line: &[u8], counts: &mut Counts) -> Result<(), Fault>
     ensures step { (ln : ℕ) (t : Nine) → went ln result counts.new t ≡ step_colour (colour_of line.now) (state ln (as_count counts.old) t) }
     ensures small { Small counts.old → Small counts.new }
+    ensures players { counts.new.players ≡ counts.old.players }
 {
     let colour = records::colour_of(line)?;
     if counts.colour != 0 {
@@ -153,6 +156,7 @@ pub fn step_colour(line: &[u8], counts: &mut Counts) -> Result<(), Fault>
 pub fn step_scoring(line: &[u8], counts: &mut Counts) -> Result<(), Fault>
     ensures step { (ln : ℕ) (t : Nine) → went ln result counts.new t ≡ step_scoring (given_of line.now) (state ln (as_count counts.old) t) }
     ensures small { Small counts.old → Small counts.new }
+    ensures players { counts.new.players ≡ counts.old.players }
 {
     let scoring = Scoring::from_line(line)?;
     if counts.scoring.is_some() {
@@ -173,6 +177,7 @@ pub fn step_acceleration(
     requires long { line_cells ≤ length lines.old }
     ensures step { (ln : ℕ) (t : Nine) → number.0 ≡ ln + 1 → went ln result counts.new (with_lines t lines.new) ≡ step_acceleration (acceleration_of line.now) (state ln (as_count counts.old) (with_lines t lines.old)) }
     ensures small { Small counts.old → Small counts.new }
+    ensures players { counts.new.players ≡ counts.old.players }
 {
     let record = records::acceleration_of(line)?;
     let n = counts.accelerations;
@@ -183,4 +188,35 @@ pub fn step_acceleration(
     counts.records[n] = record;
     counts.accelerations = n + 1;
     Ok(())
+}
+
+#[cfg(test)]
+mod tests {
+    use super::*;
+    use types::LINES;
+
+    // The first line of each kind is stored, and the second refused but for the 250, of which more may stand; here these are of line 0. No line changes the players.
+    #[test]
+    fn players_stay(rt: HostRuntime) {
+        let mut counts = Counts::new();
+        counts.players = 3;
+        let mut text = [0; MOST_TEXT];
+        let mut lines = [0; LINES];
+        for first in [true, false] {
+            assert!(rt; counts.text <= MOST_TEXT);
+            assert!(rt; counts.accelerations <= MOST_ACCELERATIONS);
+            let name = step_text(b"012 Open", &mut counts, &mut text);
+            let rounds = step_rounds(b"142 9", &mut counts);
+            let colour = step_colour(b"152 W", &mut counts);
+            let scoring = step_scoring(b"162  W 3.0    D 1.0", &mut counts);
+            let record = b"250      01.0 001 002 0001 0009";
+            let acceleration = step_acceleration(record, LineNumber(0), &mut counts, &mut lines);
+            assert_eq!(rt; name.is_ok(), first);
+            assert_eq!(rt; rounds.is_ok(), first);
+            assert_eq!(rt; colour.is_ok(), first);
+            assert_eq!(rt; scoring.is_ok(), first);
+            assert!(rt; acceleration.is_ok());
+            assert_eq!(rt; counts.players, 3);
+        }
+    }
 }
